@@ -1,0 +1,52 @@
+-- A routine that returns the outcome's answer and leaves its slices meets its contract; and what a caller reads off a contract.
+use mathlib.Core.Path.{_≡_, refl, sym, _∙_, ap, subst, subst⁻¹}
+use mathlib.Core.List.{List}
+use Prim.Native.Nat.{ℕ}
+use lib.IntN.{ℤ}
+use lib.ListN.{length}
+use Rattle.minuska.specs.declared.StepAnswer.{StepAnswer}
+use Rattle.minuska.specs.declared.RunAnswer.{RunAnswer}
+use Rattle.minuska.specs.declared.ReplayAnswer.{ReplayAnswer}
+use Rattle.minuska.specs.Answer.{Check}
+use Rattle.minuska.specs.Claim.{TableClaim, ConfigurationClaim}
+use Rattle.minuska.specs.Slice.{stepAnswer, stepOut, runAnswer, runOut, runSpare, replayAnswer, replayOut, replayChoices, replayWork}
+use Rattle.minuska.specs.Computed.Outcome.{tableCheck, configurationCheck, ruleOutcome, stepOutcome, runOutcome, replayOutcome}
+use Rattle.minuska.specs.Contract.{CheckTableContract, CheckConfigurationContract, StepByRuleContract, StepContract, RunContract, ReplayContract}
+use Rattle.minuska.proofs.OutcomeLaw.{table-check, configuration-check, rule-outcome, step-outcome, run-outcome, replay-outcome}
+use Rattle.minuska.proofs.RefusalLaw.{rule-refuses, step-refuses, run-refuses, replay-refuses}
+
+-- ---- the checks
+module _ (ws : List ℤ) (r : Check) where
+  pub check-table-contract : r ≡ tableCheck ws → CheckTableContract ws r
+  check-table-contract e = record { answer = e; claim = subst⁻¹ (TableClaim ws) e (table-check ws) }
+
+  pub check-configuration-contract : r ≡ configurationCheck ws → CheckConfigurationContract ws r
+  check-configuration-contract e = record { answer = e; claim = subst⁻¹ (ConfigurationClaim ws) e (configuration-check ws) }
+
+-- ---- the step by one given rule, and the step
+module _ (ws cs : List ℤ) (n : ℕ) (out out′ : List ℤ) (r : StepAnswer) where
+  pub step-by-rule-contract : r ≡ stepAnswer (ruleOutcome ws cs n (length out)) → out′ ≡ stepOut (ruleOutcome ws cs n (length out)) out → StepByRuleContract ws cs n out out′ r
+  step-by-rule-contract e f =
+      record { outcome = ruleOutcome ws cs n (length out); is = refl; answer = e; leaves = f; claim = rule-outcome ws cs n (length out); refuses = rule-refuses ws cs n (length out) }
+
+module _ (ws cs out out′ : List ℤ) (r : StepAnswer) where
+  pub step-contract : r ≡ stepAnswer (stepOutcome ws cs (length out)) → out′ ≡ stepOut (stepOutcome ws cs (length out)) out → StepContract ws cs out out′ r
+  step-contract e f =
+      record { outcome = stepOutcome ws cs (length out); is = refl; answer = e; leaves = f; claim = step-outcome ws cs (length out); refuses = step-refuses ws cs (length out) }
+
+-- ---- the run
+module _ (ws cs : List ℤ) (budget n : ℕ) (out spare out′ spare′ : List ℤ) (r : RunAnswer) where
+  pub run-contract : r ≡ runAnswer (runOutcome ws cs budget n (length out) (length spare)) → out′ ≡ runOut n (runOutcome ws cs budget n (length out) (length spare)) out →
+      spare′ ≡ runSpare n (runOutcome ws cs budget n (length out) (length spare)) spare → RunContract ws cs budget n out spare out′ spare′ r
+  run-contract e f g =
+      record { outcome = runOutcome ws cs budget n (length out) (length spare); is = refl; answer = e; leaves = f; leavesSpare = g; claim = run-outcome ws cs budget n (length out) (length spare); refuses = run-refuses ws cs budget n (length out) (length spare) }
+
+-- ---- the replay
+module _ (ws cs : List ℤ) (log : List ℕ) (n : ℕ) (out : List ℤ) (choices : List ℕ) (work : List ℤ) (out′ : List ℤ) (choices′ : List ℕ) (work′ : List ℤ) (r : ReplayAnswer) where
+  pub replay-contract : r ≡ replayAnswer (replayOutcome ws cs log n (length out) (length choices) (length work)) →
+      out′ ≡ replayOut (replayOutcome ws cs log n (length out) (length choices) (length work)) out →
+      choices′ ≡ replayChoices (replayOutcome ws cs log n (length out) (length choices) (length work)) choices →
+      work′ ≡ replayWork n log (replayOutcome ws cs log n (length out) (length choices) (length work)) work →
+      ReplayContract ws cs log n out choices work out′ choices′ work′ r
+  replay-contract e f g h =
+      record { outcome = replayOutcome ws cs log n (length out) (length choices) (length work); is = refl; answer = e; leaves = f; leavesChoices = g; leavesWork = h; claim = replay-outcome ws cs log n (length out) (length choices) (length work); refuses = replay-refuses ws cs log n (length out) (length choices) (length work) }

@@ -1,0 +1,9 @@
+pub mod Read
+pub mod Match
+pub mod Value
+pub mod Step
+pub mod Run
+pub mod Replay
+pub mod Outcome
+pub mod Walk
+pub mod Place

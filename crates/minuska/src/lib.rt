@@ -1,0 +1,44 @@
+// What the routines answer. The meaning of each answer is in specs/, the laws are in proofs/: README.md says which files must be believed.
+
+// Why a call is refused (document 01, "Turned back").
+pub enum Refusal {
+    BadTable,
+    BadConfiguration,
+    TooLong,
+    BadLimit,
+    ShortBuffer,
+    OverLimit,
+    Unreadable,
+}
+
+// A check of a table or of a configuration.
+pub enum Check {
+    Good,
+    Refused(Refusal),
+}
+
+// A step, or the step by one given rule: stuck where no rule applies, where that rule does not.
+pub enum StepAnswer {
+    Stepped {
+        rule: usize,
+        action: u16,
+        nodes: usize,
+    },
+    Stuck,
+    Refused(Refusal),
+}
+
+// A run, with its count of steps; `Over` is refusal 6.
+pub enum RunAnswer {
+    Stuck(usize),
+    Spent(usize),
+    Over(usize),
+    Refused(Refusal),
+}
+
+// A replay; over the limit is refusal 6.
+pub enum ReplayAnswer {
+    Reproduced,
+    NotReproduced,
+    Refused(Refusal),
+}
