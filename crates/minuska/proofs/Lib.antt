@@ -25,4 +25,8 @@ pub mod GroundLaw
 pub mod RangeLaw
 pub mod WalkLaw
 pub mod WriteLaw
+pub mod ItemLaw
 pub mod MarkedLaw
+pub mod AppendedLaw
+pub mod PlaceLaw
+pub mod IndexLaw
