@@ -30,3 +30,8 @@ pub mod MarkedLaw
 pub mod AppendedLaw
 pub mod PlaceLaw
 pub mod IndexLaw
+pub mod AcceptedLaw
+pub mod PositionLaw
+pub mod PartLaw
+pub mod SubtermLaw
+pub mod ReadLaw

@@ -2,12 +2,12 @@
 use mathlib.Core.Path.{_≡_, sym, _∙_, ap}
 use mathlib.Core.Option.{Option·some-injective}
 use mathlib.Core.List.{List, _∷_, _++_, append-assoc}
-use Prim.Native.Nat.{ℕ, _+_, _<_, _≤_}
+use Prim.Native.Nat.{ℕ, suc, _+_, _<_, _≤_}
 use native.Mathlib.Nat.{add-zero}
 use native.Mathlib.Omega.{arith}
 use lib.Dec.{T}
-use lib.IntN.{ℤ}
-use lib.ListN.{length, take, drop, getD, length-append, length-drop, take-append-drop}
+use lib.IntN.{ℤ, pos}
+use lib.ListN.{length, take, drop, getD, length-append, length-take, length-drop, take-append-drop}
 use lib.Seq.{take-length, take-append-seam, drop-append-seam, drop-drop, getD-drop, getD-take}
 use Rattle.minuska.specs.Term.{Term, single}
 use Rattle.minuska.specs.Word.{ok, encode}
@@ -57,3 +57,22 @@ stands-unique {ws} {at} a b x y s t =
     let p = read-term-iff (drop at ws) a (drop (at + length (encode (single a))) ws) .1 (x, sym (stands-then s)) in
     let q = read-term-iff (drop at ws) b (drop (at + length (encode (single b))) ws) .1 (y, sym (stands-then t)) in
     ap (λ (z : Term × List ℤ). z .0) (Option·some-injective (a, drop (at + length (encode (single a))) ws) (b, drop (at + length (encode (single b))) ws) (sym p ∙ q))
+
+-- the words from a place on start with these two
+pub record Two (ws : List ℤ) (at : ℕ) (x y : ℤ) : Type 0 where
+  pub room : at + 2 ≤ length ws
+  pub first : getD ws at (pos 0) ≡ x
+  pub second : getD ws (at + 1) (pos 0) ≡ y
+
+pub two-words : (ws : List ℤ) (at n : ℕ) (x y : ℤ) (zs : List ℤ) → take n (drop at ws) ≡ x ∷ y ∷ zs → Two ws at x y
+two-words ws at n x y zs e =
+    let a : length (take n (drop at ws)) ≡ suc (suc (length zs)) = ap length e in
+    let b = length-take n (drop at ws) in
+    let c = length-drop at ws in
+    let h : 0 < n = omega arith in
+    let k : 1 < n = omega arith in
+    record {
+      room = omega arith;
+      first = ap (λ (i : ℕ). getD ws i (pos 0)) (sym (add-zero at)) ∙ (sym (getD-drop at ws 0 (pos 0)) ∙ (sym (getD-take n (drop at ws) 0 (pos 0) h) ∙ ap (λ (l : List ℤ). getD l 0 (pos 0)) e));
+      second = sym (getD-drop at ws 1 (pos 0)) ∙ (sym (getD-take n (drop at ws) 1 (pos 0) k) ∙ ap (λ (l : List ℤ). getD l 1 (pos 0)) e);
+    }

@@ -46,6 +46,11 @@ tableCheck ws = checked BadTable (readTable ws)
 unfoldable pub configurationCheck : List ℤ → Check
 configurationCheck ws = checked BadConfiguration (readConfiguration ws)
 
+-- both, the table's first: "lower numbers go first"
+abbrev pub orSecond : Check → Check → Check
+orSecond Good y = y
+orSecond (Refused r) y = Refused r
+
 -- the words of the subterm at a place; none where the words are no configuration or the place is no node
 abbrev pub termWords : Option Term → List ℤ
 termWords none = []

@@ -1,16 +1,17 @@
 -- Bridges to code: what stands where in a slice of words, where a table's parts stand, and what a check has established.
 use mathlib.Core.Path.{_≡_}
 use mathlib.Core.Bool.{Bool, true, false}
-use mathlib.Core.Option.{some}
+use mathlib.Core.Option.{none, some}
 use mathlib.Core.List.{List, [], _∷_, _++_}
 use Prim.Native.Nat.{ℕ, _+_, _-_, _*_, _≤_, _<_}
 use lib.IntN.{ℤ}
 use lib.Dec.{T}
-use lib.ListN.{length, take, drop, getD}
+use lib.ListN.{length, take, drop, getD, getElem?}
 use Rattle.minuska.specs.Term.{Term, single, isGround}
 use Rattle.minuska.specs.Word.{ok, encode}
 use Rattle.minuska.specs.Satisfaction.{Valuation}
 use Rattle.minuska.specs.Rule.{Rule, Table, conditionWords, ruleWords, IsTable, IsConfiguration}
+use Rattle.minuska.specs.Computed.Step.{order}
 
 -- the words from one place up to another
 abbrev pub part : List ℤ → ℕ → ℕ → List ℤ
@@ -62,6 +63,19 @@ pub record Indexed (ws : List ℤ) (index : List ℕ) : Type 0 where
   pub table : Table
   pub is : IsTable ws table
   pub indexed : take (4 * length table) index ≡ places table
+
+-- What the routines on checked words say of any table that the words are. Its rule count; the action of a number that names a rule, of any other 0; the
+-- rule at a position of the order in which rules are tried, at any other a number that names no rule.
+pub record RuleCountIs (ws : List ℤ) (r : ℕ) : Type 0 where
+  pub is : (table : Table) → IsTable ws table → r ≡ length table
+
+pub record ActionIs (ws : List ℤ) (n r : ℕ) : Type 0 where
+  pub is : (table : Table) (rule : Rule) → IsTable ws table → getElem? table n ≡ some rule → r ≡ rule .action
+  pub other : (table : Table) → IsTable ws table → getElem? table n ≡ none → r ≡ 0
+
+pub record OrderedIs (ws : List ℤ) (i r : ℕ) : Type 0 where
+  pub is : (table : Table) → IsTable ws table → (n : ℕ) → getElem? (order table) i ≡ some n → r ≡ n
+  pub other : (table : Table) → IsTable ws table → getElem? (order table) i ≡ none → getElem? table r ≡ none
 
 -- What the configuration's check establishes.
 pub record Accepted (ws : List ℤ) : Type 0 where

@@ -1,0 +1,10 @@
+pub mod ReadingLaw
+pub mod StackLaw
+pub mod LayoutLaw
+pub mod SeekLaw
+pub mod ToldLaw
+pub mod FrameLaw
+pub mod TurnLaw
+pub mod FindLaw
+pub mod EndLaw
+pub mod CallLaw

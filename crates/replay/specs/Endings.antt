@@ -1,0 +1,60 @@
+-- What the replay leaves, once the search has ended.
+use mathlib.Core.Path.{_≡_}
+use mathlib.Core.List.{List, _++_}
+use Prim.Native.Nat.{ℕ, _+_, _-_, _≤_, _<_}
+use lib.IntN.{ℤ}
+use lib.ListN.{length, take, drop}
+use Rattle.minuska.specs.Answer.{gives}
+use Rattle.minuska.specs.Slice.{replayAnswer, replayOut, replayChoices, writeZeros}
+use Rattle.minuska.specs.Computed.Step.{order}
+use Rattle.minuska.specs.Computed.Replay.{replay}
+use Rattle.minuska.specs.declared.Refusal.the-variants.{OverLimit}
+use Rattle.minuska.specs.declared.ReplayAnswer.{ReplayAnswer}
+use Rattle.minuska.specs.declared.ReplayAnswer.the-variants.{Reproduced, NotReproduced, Refused}
+use Rattle.minuska.specs.Slice.{outLimit}
+use Rattle.replay.specs.declared.search.Found.{Found}
+use Rattle.replay.specs.declared.search.Found.the-variants.{Path, Over, Nothing}
+use Rattle.replay.specs.Reading.{tableOf, termOf}
+use Rattle.replay.specs.Layout.{base}
+use Rattle.replay.specs.Stack.{chosen}
+use Rattle.replay.specs.Turns.{positionAt, Begun}
+
+-- out with the first k words as they are, and behind them, up to `room`, what was kept for it at a place of the work area
+abbrev pub restored : ℕ → ℕ → ℕ → List ℤ → List ℤ → List ℤ
+restored room k at out work = take k out ++ (take (room - k) (drop (at + k) work) ++ drop room out)
+
+-- a search that has found a path: so many words of out are its last configuration, and each frame has tried a rule
+abbrev pub FoundWithin : Found → ℕ → ℕ → ℕ → List ℤ → Type 0
+FoundWithin (Path k) rules m room work = (k ≤ room) × ((i : ℕ) → i < m → Begun rules room work (base room i))
+FoundWithin Over rules m room work = Unit {0}
+FoundWithin Nothing rules m room work = Unit {0}
+
+-- the answer; the words of out that stay; the choices
+abbrev pub endedAs : Found → ReplayAnswer
+endedAs (Path k) = Reproduced
+endedAs Over = Refused OverLimit
+endedAs Nothing = NotReproduced
+
+abbrev pub foundWords : Found → ℕ
+foundWords (Path k) = k
+foundWords Over = 0
+foundWords Nothing = 0
+
+abbrev pub choicesAfter : Found → List ℕ → ℕ → ℕ → List ℤ → List ℕ → List ℕ
+choicesAfter (Path k) rules m room work choices = chosen rules (positionAt room work) m ++ drop m choices
+choicesAfter Over rules m room work choices = choices
+choicesAfter Nothing rules m room work choices = choices
+
+-- what the search has found, in the slices
+pub record EndContract (ws : List ℤ) (f : Found) (m room : ℕ) (out : List ℤ) (choices : List ℕ) (work out′ : List ℤ) (choices′ : List ℕ) (work′ : List ℤ) (r : ReplayAnswer) : Type 0 where
+  pub answer : r ≡ endedAs f
+  pub leaves : out′ ≡ restored room (foundWords f) (base room m) out work
+  pub leaves-choices : choices′ ≡ choicesAfter f (order (tableOf ws)) m room work choices
+  pub leaves-work : work′ ≡ writeZeros (base room m + (room + 2)) work
+
+-- the replay of checked words, where nothing is refused
+pub record AnswerContract (ws cs : List ℤ) (log : List ℕ) (room : ℕ) (out : List ℤ) (choices : List ℕ) (work out′ : List ℤ) (choices′ : List ℕ) (work′ : List ℤ) (r : ReplayAnswer) : Type 0 where
+  pub answer : r ≡ replayAnswer (gives (replay (tableOf ws) (outLimit room) log (termOf cs)))
+  pub leaves : out′ ≡ replayOut (gives (replay (tableOf ws) (outLimit room) log (termOf cs))) out
+  pub leaves-choices : choices′ ≡ replayChoices (gives (replay (tableOf ws) (outLimit room) log (termOf cs))) choices
+  pub leaves-work : work′ ≡ writeZeros (base room (length log) + (room + 2)) work

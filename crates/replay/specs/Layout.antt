@@ -1,0 +1,40 @@
+-- A FRAME IN THE WORK AREA (document 01: "(log length + 1) × (2N + 2) words"): `room` words for a configuration, then how many of them it has, then the next
+-- position to try. `room` is 2N. Every other file goes by these names.
+use mathlib.Core.List.{List}
+use Prim.Native.Nat.{ℕ, _+_, _*_}
+use lib.Dec.{T}
+use lib.IntN.{ℤ, pos, negsuc}
+use lib.ListN.{length, getD, take, drop, set}
+use lib.Seq.{paste}
+use lib.Signed.{nonNeg}
+
+-- the number that a word holds
+abbrev pub natOf : ℤ → ℕ
+natOf (pos n) = n
+natOf (negsuc n) = 0
+
+-- where the frame at a depth begins
+abbrev pub base : ℕ → ℕ → ℕ
+base room depth = depth * (room + 2)
+
+-- what stands in the frame that begins at a place
+unfoldable pub lengthOf : ℕ → List ℤ → ℕ → ℕ
+lengthOf room work at = natOf (getD work (at + room) (pos 0))
+
+unfoldable pub positionOf : ℕ → List ℤ → ℕ → ℕ
+positionOf room work at = natOf (getD work (at + room + 1) (pos 0))
+
+unfoldable pub wordsOf : ℕ → List ℤ → ℕ → List ℤ
+wordsOf room work at = take (lengthOf room work at) (drop at work)
+
+-- the two numbers are there: neither word is below 0
+pub record Counted (room : ℕ) (work : List ℤ) (at : ℕ) : Type 0 where
+  pub words : T (nonNeg (getD work (at + room) (pos 0)))
+  pub next : T (nonNeg (getD work (at + room + 1) (pos 0)))
+
+-- the frame with another next position; a frame anew, with a configuration and position 0
+unfoldable pub advanced : ℕ → List ℤ → ℕ → ℕ → List ℤ
+advanced room work at position = set work (at + room + 1) (pos position)
+
+unfoldable pub entered : ℕ → List ℤ → ℕ → List ℤ → List ℤ
+entered room work at config = advanced room (set (paste work at config (length config)) (at + room) (pos (length config))) at 0

@@ -1,0 +1,50 @@
+// Words of a slice: a number read and stored, a copy, and zeros.
+ghost use mathlib.Core.Path.{_≡_};
+ghost use Prim.Native.Nat.{_+_, _^_, _≤_, _<_};
+ghost use lib.Dec.{T};
+ghost use lib.IntN.{pos};
+ghost use lib.ListN.{length, getD, set};
+ghost use lib.Seq.{paste};
+ghost use lib.Signed.{nonNeg};
+ghost use Rattle.minuska.specs.Slice.{writeZeros};
+ghost use Rattle.replay.specs.Layout.{natOf};
+
+// The number that a word holds.
+pub fn number_at(words: &[i64], at: usize) -> usize
+    requires { ⌜ (at < length (now words)) × T (nonNeg (getD (now words) at (pos 0))) ⌝ }
+    ensures { λ r. ⌜ r ≡ natOf (getD (now (words .entry)) at (pos 0)) ⌝ }
+{
+    let word = words[at];
+    word as usize
+}
+
+pub fn put(words: &mut [i64], at: usize, number: usize)
+    requires { ⌜ (at < length (now words)) × (number < 2 ^ 32) ⌝ }
+    ensures { λ _. ⌜ now (words .exit) ≡ set (now (words .entry)) at (pos number) ⌝ }
+{
+    words[at] = number as i64;
+}
+
+// Copies `from` into `to`, from `at` on.
+pub fn copy_in(to: &mut [i64], at: usize, from: &[i64])
+    requires { ⌜ at + length (now from) ≤ length (now to) ⌝ }
+    ensures { λ _. ⌜ now (to .exit) ≡ paste (now (to .entry)) at (now (from .entry)) (length (now (from .entry))) ⌝ }
+{
+    let mut i = 0;
+    while i < from.len() {
+        to[at + i] = from[i];
+        i += 1;
+    }
+}
+
+// The first `count` words become 0.
+pub fn clear(words: &mut [i64], count: usize)
+    requires { ⌜ count ≤ length (now words) ⌝ }
+    ensures { λ _. ⌜ now (words .exit) ≡ writeZeros count (now (words .entry)) ⌝ }
+{
+    let mut i = 0;
+    while i < count {
+        words[i] = 0;
+        i += 1;
+    }
+}

@@ -1,0 +1,6 @@
+pub mod WritingLaw
+pub mod RefusingLaw
+pub mod TurningLaw
+pub mod JudgedLaw
+pub mod ReachedLaw
+pub mod EndingLaw

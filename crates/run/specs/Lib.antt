@@ -1,0 +1,3 @@
+pub mod Turning
+pub mod Refusing
+pub mod Ending

@@ -1,0 +1,161 @@
+-- One rule at one configuration, put together: what each way out of `try_rule` says of the outcome.
+use mathlib.Core.Path.{_≡_, refl, sym, _∙_, ap, subst}
+use mathlib.Core.Bool.{Bool, true, false, cond, true≢false}
+use mathlib.Core.Logic.{_⊎_, inl, inr, ⊎-elim}
+use mathlib.Core.Option.{Option, none, some}
+use mathlib.Core.List.{List, [], _∷_}
+use Prim.Native.Nat.{ℕ, zero, suc, _*_, _/_, _≤_, _<_}
+use native.Mathlib.Omega.{arith}
+use lib.IntN.{ℤ}
+use lib.Dec.{leb}
+use lib.ListN.{length, getElem?}
+use borrow.Author.Tests.{le-leb, lt-leb, leb-true, leb-false}
+use Rattle.minuska.specs.Basics.{_>>=_, present}
+use Rattle.minuska.specs.Term.{Term, single, nodeCount}
+use Rattle.minuska.specs.Word.{encode}
+use Rattle.minuska.specs.Satisfaction.{Valuation}
+use Rattle.minuska.specs.Rule.{Rule, Table, IsTable, IsConfiguration}
+use Rattle.minuska.specs.Slice.{outLimit, stepAnswer, stepOut, write}
+use Rattle.minuska.specs.declared.StepAnswer.{StepAnswer}
+use Rattle.minuska.specs.declared.StepAnswer.the-variants as S
+use Rattle.minuska.specs.declared.Refusal.the-variants.{OverLimit}
+use Rattle.minuska.specs.Answer.{Outcome, gives, StepResult, stepped, stuck, tooLarge}
+use Rattle.minuska.specs.Computed.Match.{tryMatch, unbound}
+use Rattle.minuska.specs.Computed.Value.{value, holdAll}
+use Rattle.minuska.specs.Computed.Step.{successor, successorBy, answered, withNumber, sized, actionIn, stepByRule}
+use Rattle.minuska.specs.Computed.Outcome.{ruleOutcome}
+use Rattle.minuska.specs.Computed.Place.{Indexed, Accepted}
+use Rattle.minuska.specs.Contract.{StepByRuleContract}
+use Rattle.minuska.proofs.ShutLaw.{step-by-rule-is, rule-outcome-is}
+use Rattle.minuska.proofs.OutcomeLaw.{on-words}
+use Rattle.minuska.proofs.ContractLaw.{step-by-rule-contract}
+use Rattle.minuska.proofs.AcceptedLaw.{term-length}
+use Rattle.minuska.proofs.PositionLaw.{element-there}
+use Rattle.minuska.proofs.Good.{good}
+use Rattle.minuska.proofs.StepLaw.{rule-okay}
+use Rattle.minuska.proofs.MatchLaw.{match-sound, matches-binds}
+use Rattle.minuska.proofs.ConditionLaw.{has-value}
+use Rattle.step.specs.declared.right.Fit.{Fit}
+use Rattle.step.specs.declared.right.Fit.the-variants.{Words, TooLarge}
+use Rattle.step.specs.Apply.{RuleAt, Matched, fitOf, instantiatedAs, instantiatedOut}
+
+-- ---- the measure, in nodes
+module _ (limit : ℕ) (h : Term) where
+  pub fit-words : nodeCount h ≤ limit → fitOf (2 * limit) (length (encode (single h))) ≡ Words (2 * nodeCount h)
+  unfolding fitOf
+  fit-words x = rw (term-length h) (rw (le-leb (2 * nodeCount h) (2 * limit) (omega arith)))
+
+  pub fit-not : limit < nodeCount h → fitOf (2 * limit) (length (encode (single h))) ≡ TooLarge
+  unfolding fitOf
+  fit-not x = rw (term-length h) (rw (lt-leb (2 * nodeCount h) (2 * limit) (omega arith)))
+
+-- ---- the successor within the limit, or not
+fits-or-not : (limit : ℕ) (h : Term) → (nodeCount h ≤ limit) ⊎ (limit < nodeCount h)
+fits-or-not limit h = go (leb (nodeCount h) limit) refl
+  where
+    go : (b : Bool) → leb (nodeCount h) limit ≡ b → (nodeCount h ≤ limit) ⊎ (limit < nodeCount h)
+    go true e = inl (leb-true (nodeCount h) limit e)
+    go false e = inr (leb-false (nodeCount h) limit e)
+
+module _ (limit : ℕ) (h : Term) (f : Fit) (e : f ≡ fitOf (2 * limit) (length (encode (single h)))) where
+  pub too-large : f ≡ TooLarge → limit < nodeCount h
+  too-large t = ⊎-elim (λ x. absurd (no (sym t ∙ e ∙ fit-words limit h x))) (λ x. x) (fits-or-not limit h)
+    where
+      no : TooLarge ≡ Words (2 * nodeCount h) → ⊥
+      no q = let z : _≡_ {A = ℕ} 0 1 = cc in omega arith
+
+  pub words-fit : (k : ℕ) → f ≡ Words k → (k ≡ 2 * nodeCount h) × (nodeCount h ≤ limit)
+  words-fit k t = ⊎-elim (λ x. (let q : Words k ≡ Words (2 * nodeCount h) = sym t ∙ e ∙ fit-words limit h x in (cc), x)) (λ x. absurd (no (sym t ∙ e ∙ fit-not limit h x))) (fits-or-not limit h)
+    where
+      no : Words k ≡ TooLarge → ⊥
+      no q = let z : _≡_ {A = ℕ} 0 1 = cc in omega arith
+
+module _ (limit n a : ℕ) (h : Term) (out : List ℤ) where
+  pub as-large : limit < nodeCount h → (S.Refused OverLimit ≡ instantiatedAs limit n a h) × (out ≡ instantiatedOut limit h out)
+  unfolding instantiatedAs instantiatedOut
+  as-large x = (rw (lt-leb (nodeCount h) limit x), rw (lt-leb (nodeCount h) limit x))
+
+  pub as-stepped : nodeCount h ≤ limit → (S.Stepped n a (nodeCount h) ≡ instantiatedAs limit n a h) × (write (encode (single h)) out ≡ instantiatedOut limit h out)
+  unfolding instantiatedAs instantiatedOut
+  as-stepped x = (rw (le-leb (nodeCount h) limit x), rw (le-leb (nodeCount h) limit x))
+
+-- ---- the outcome of a rule that does not apply, and of one that does
+module _ (ws cs : List ℤ) (n : ℕ) (out : List ℤ) where
+  pub outcome-by : (t : Table) (g : Term) → IsTable ws t → IsConfiguration cs g → ruleOutcome ws cs n (length out) ≡ gives (answered t (outLimit (length out)) (withNumber n (successorBy t n g)))
+  outcome-by t g p q =
+      rule-outcome-is ws cs n (length out) ∙
+      (on-words ws cs t g p q (λ u h. gives (stepByRule u (outLimit (length out)) n h)) ∙
+      ap {B = Outcome StepResult} gives (step-by-rule-is t (outLimit (length out)) n g))
+
+  pub no-successor : (t : Table) (g : Term) → IsTable ws t → IsConfiguration cs g → successorBy t n g ≡ none → StepByRuleContract ws cs n out out S.Stuck
+  unfolding stepAnswer stepOut
+  no-successor t g p q e =
+      let o : ruleOutcome ws cs n (length out) ≡ gives stuck = outcome-by t g p q ∙ ap (λ (s : Option Term). gives (answered t (outLimit (length out)) (withNumber n s))) e in
+      step-by-rule-contract ws cs n out out S.Stuck (ap stepAnswer (sym o)) (ap (λ (x : Outcome StepResult). stepOut x out) (sym o))
+
+  pub the-successor : (rule : Rule) (g h : Term) → RuleAt ws cs n rule g → successor rule g ≡ some h → (out′ : List ℤ) (r : StepAnswer) →
+      r ≡ instantiatedAs (outLimit (length out)) n (rule .action) h → out′ ≡ instantiatedOut (outLimit (length out)) h out → StepByRuleContract ws cs n out out′ r
+  unfolding stepAnswer stepOut instantiatedAs instantiatedOut
+  the-successor rule g h a e out′ r x y =
+      let t = a .table in
+      let limit = outLimit (length out) in
+      let s : successorBy t n g ≡ some h = ap (λ (z : Option Rule). z >>= λ q. successor q g) (a .numbered) ∙ e in
+      let o : ruleOutcome ws cs n (length out) ≡ gives (sized limit n (rule .action) h) =
+      outcome-by t g (a .is) (a .configuration) ∙
+      (ap (λ (z : Option Term). gives (answered t limit (withNumber n z))) s ∙ ap (λ (z : Option Rule). gives (sized limit n (actionIn z) h)) (a .numbered)) in
+      step-by-rule-contract ws cs n out out′ r (x ∙ (by-size limit (leb (nodeCount h) limit) ∙ ap stepAnswer (sym o))) (y ∙ (by-out limit (leb (nodeCount h) limit) ∙ ap (λ (z : Outcome StepResult). stepOut z out) (sym o)))
+    where
+      by-size : (limit : ℕ) (b : Bool) → cond b (S.Stepped n (rule .action) (nodeCount h)) (S.Refused OverLimit) ≡ stepAnswer (gives (cond b (stepped n (rule .action) h) tooLarge))
+      by-size limit true = refl
+      by-size limit false = refl
+
+      by-out : (limit : ℕ) (b : Bool) → cond b (write (encode (single h)) out) out ≡ stepOut (gives (cond b (stepped n (rule .action) h) tooLarge)) out
+      by-out limit true = refl
+      by-out limit false = refl
+
+-- ---- the successor, from what matching and the conditions say
+module _ (ws cs : List ℤ) (n : ℕ) (rule : Rule) (g : Term) (a : RuleAt ws cs n rule g) where
+  by-rule : (s : Option Term) → successor rule g ≡ s → successorBy (a .table) n g ≡ s
+  by-rule s e = ap (λ (z : Option Rule). z >>= λ q. successor q g) (a .numbered) ∙ e
+
+  pub unmatched : present (tryMatch (single (rule .left)) (single g) unbound) ≡ false → successorBy (a .table) n g ≡ none
+  unmatched e = by-rule none (go (tryMatch (single (rule .left)) (single g) unbound) e)
+    where
+      go : (o : Option Valuation) → present o ≡ false → (o >>= λ ρ. cond (holdAll ρ (rule .conditions)) (value ρ (rule .right)) none) ≡ none
+      go none e = refl
+      go (some ρ) e = absurd (true≢false e)
+
+  pub matched-some : present (tryMatch (single (rule .left)) (single g) unbound) ≡ true → (ρ : Valuation) × (tryMatch (single (rule .left)) (single g) unbound ≡ some ρ)
+  matched-some e = go (tryMatch (single (rule .left)) (single g) unbound) refl e
+    where
+      go : (o : Option Valuation) → tryMatch (single (rule .left)) (single g) unbound ≡ o → present o ≡ true → (ρ : Valuation) × (tryMatch (single (rule .left)) (single g) unbound ≡ some ρ)
+      go none p e = absurd (true≢false (sym e))
+      go (some ρ) p e = (ρ, p)
+
+  module _ (ρ : Valuation) (m : tryMatch (single (rule .left)) (single g) unbound ≡ some ρ) where
+    held : (b : Bool) → holdAll ρ (rule .conditions) ≡ b → successor rule g ≡ cond b (value ρ (rule .right)) none
+    held b e = ap (λ (o : Option Valuation). o >>= λ σ. cond (holdAll σ (rule .conditions)) (value σ (rule .right)) none) m ∙ ap (λ (c : Bool). cond c (value ρ (rule .right)) none) e
+
+    pub unheld : holdAll ρ (rule .conditions) ≡ false → successorBy (a .table) n g ≡ none
+    unheld e = by-rule none (held false e)
+
+    pub applied : (h : Term) → holdAll ρ (rule .conditions) ≡ true → value ρ (rule .right) ≡ some h → successor rule g ≡ some h
+    applied h e v = held true e ∙ v
+
+    pub right-value : (h : Term) × (value ρ (rule .right) ≡ some h)
+    right-value =
+        let o = rule-okay (a .table) (a .is .accepted) n rule (a .numbered) in
+        has-value (single (rule .left)) ρ (matches-binds ρ (single (rule .left)) (single g) (match-sound (single (rule .left)) (single g) unbound ρ m .0)) (rule .right) (good rule o .covered)
+
+-- ---- numbers that name a rule, and those that do not
+past-none : (t : Table) (n : ℕ) → length t ≤ n → getElem? t n ≡ none
+past-none [] n h = refl
+past-none (r ∷ t) zero h = absurd (let f : ⊥ = omega arith in f)
+past-none (r ∷ t) (suc n) h = past-none t n (omega arith)
+
+module _ (ws cs : List ℤ) (n : ℕ) (t : Table) (g : Term) (p : IsTable ws t) (q : IsConfiguration cs g) where
+  pub past-successor : length t ≤ n → successorBy t n g ≡ none
+  past-successor h = ap (λ (z : Option Rule). z >>= λ r. successor r g) (past-none t n h)
+
+  pub named : n < length t → (rule : Rule) × RuleAt ws cs n rule g
+  named h = let r = element-there t n h in (r .0, record { table = t; is = p; numbered = r .1; configuration = q })

@@ -1,0 +1,110 @@
+-- A rule's conditions, one after the other: the turns of `hold_all`.
+use mathlib.Core.Path.{_≡_, refl, sym, _∙_, ap, subst}
+use mathlib.Core.Bool.{Bool, true, false, _&&_}
+use mathlib.Core.Option.{some}
+use mathlib.Core.List.{List, [], _∷_, _++_}
+use Prim.Native.Nat.{ℕ, _+_, _≤_, _<_}
+use native.Mathlib.Nat.{add-assoc}
+use native.Mathlib.Omega.{arith}
+use lib.IntN.{ℤ}
+use lib.ListN.{length, length-append}
+use Rattle.minuska.specs.Term.{Term, single}
+use Rattle.minuska.specs.Word.{encode}
+use Rattle.minuska.specs.Satisfaction.{Valuation, SideCondition}
+use Rattle.minuska.specs.Rule.{conditionWords}
+use Rattle.minuska.specs.Computed.Value.{holds, holdAll}
+use Rattle.minuska.specs.Computed.Place.{Stands, Binds}
+use Rattle.minuska.proofs.PlaceLaw.{stands-first, stands-second}
+use Rattle.value.specs.declared.Tested.{Tested}
+use Rattle.value.specs.Evaluate.{Placed, HasValue, ConditionAt, ConditionIn, ConditionContract}
+use Rattle.step.specs.Conditions.{Side, Sides, Conditions, SomeConditions, HoldAllIs}
+
+module _ (ws cs : List ℤ) (starts ends : List ℕ) (end i : ℕ) (ρ : Valuation) (c : SideCondition) (later : List SideCondition) (x : Conditions ws cs starts ends i end ρ (c ∷ later)) where
+  abbrev A : List ℤ
+  A = encode (single (c .first))
+
+  abbrev B : List ℤ
+  B = encode (single (c .second))
+
+  has-at : (at : ℕ) (e : Term) (s : Side ρ e) → Stands ws at (encode (single e)) → HasValue ws cs starts ends at ρ e (s .term)
+  has-at at e s h = record { placed = record { good = s .good; expressions = s .expression; stands = h; binds = x .binds }; is = s .is }
+
+  -- the first condition
+  pub first-condition : ConditionAt ws cs starts ends i ρ c
+  first-condition =
+      let (s, t, rest) = x .sides in
+      let h = stands-second A (B ++ conditionWords later) (x .stands) in
+      record {
+        first = s .term;
+        second = t .term;
+        first-has = has-at i (c .first) s (stands-first A (B ++ conditionWords later) (x .stands));
+        second-has = has-at (i + length A) (c .second) t (stands-first B (conditionWords later) h);
+      }
+
+  module _ (r : Tested) (y : ConditionContract ws cs starts ends i r) where
+    pub next-is : r .next ≡ i + length A + length B
+    next-is = y .meant ρ c first-condition .next
+
+    -- those behind it
+    pub later-conditions : Conditions ws cs starts ends (r .next) end ρ later
+    later-conditions =
+        record {
+          sides = x .sides .2;
+          stands = subst (λ (n : ℕ). Stands ws n (conditionWords later)) (sym next-is) (stands-second B (conditionWords later) (stands-second A (B ++ conditionWords later) (x .stands)));
+          upTo = x .upTo ∙ omega (arith, next-is, length-append A (B ++ conditionWords later), length-append B (conditionWords later));
+          binds = x .binds;
+        }
+
+    pub holds-on : r .holds ≡ true → holdAll ρ (c ∷ later) ≡ holdAll ρ later
+    holds-on e = ap (λ (b : Bool). b && holdAll ρ later) (sym (y .meant ρ c first-condition .holds) ∙ e)
+
+    pub holds-not : r .holds ≡ false → holdAll ρ (c ∷ later) ≡ false
+    holds-not e = ap (λ (b : Bool). b && holdAll ρ later) (sym (y .meant ρ c first-condition .holds) ∙ e)
+
+    pub goes-forward : i < r .next
+    goes-forward = omega (arith, next-is)
+
+module _ (ws cs : List ℤ) (starts ends : List ℕ) (at end : ℕ) where
+  -- how far the conditions have held: the rest stands from place i on
+  pub record Holding (i : ℕ) : Type 0 where
+    pub rest : (ρ : Valuation) (conds : List SideCondition) → Conditions ws cs starts ends at end ρ conds → (later : List SideCondition) × Conditions ws cs starts ends i end ρ later × (holdAll ρ conds ≡ holdAll ρ later)
+
+  pub holding-first : Holding at
+  holding-first = record { rest = λ ρ conds x. (conds, x, refl) }
+
+  -- a place before the end: a condition stands there
+  some-later : (i : ℕ) (ρ : Valuation) (later : List SideCondition) → Conditions ws cs starts ends i end ρ later → i < end → (c : SideCondition) × (more : List SideCondition) × (later ≡ c ∷ more)
+  some-later i ρ [] x h = absurd (let e = x .upTo in let f : ⊥ = omega arith in f)
+  some-later i ρ (c ∷ more) x h = (c, more, refl)
+
+  none-later : (i : ℕ) (ρ : Valuation) (later : List SideCondition) → Conditions ws cs starts ends i end ρ later → end ≤ i → holdAll ρ later ≡ true
+  none-later i ρ [] x h = refl
+  none-later i ρ (c ∷ more) x h = absurd (let e = x .upTo in let f : ⊥ = omega (arith, length-append (encode (single (c .first))) (encode (single (c .second)) ++ conditionWords more)) in f)
+
+  module _ (i : ℕ) (m : Holding i) where
+    pub all-held : end ≤ i → HoldAllIs ws cs starts ends at end true
+    all-held h = record { is = λ ρ conds x. let (later, y, e) = m .rest ρ conds x in sym (e ∙ none-later i ρ later y h) }
+
+    module _ (below : i < end) where
+      -- the condition there, of a rest that there is
+      next-condition : (ρ : Valuation) (conds : List SideCondition) → Conditions ws cs starts ends at end ρ conds → (c : SideCondition) × (more : List SideCondition) × Conditions ws cs starts ends i end ρ (c ∷ more) × (holdAll ρ conds ≡ holdAll ρ (c ∷ more))
+      next-condition ρ conds x =
+          let (later, y, e) = m .rest ρ conds x in
+          let (c, more, p) = some-later i ρ later y below in
+          (c, more, subst (Conditions ws cs starts ends i end ρ) p y, e ∙ ap (holdAll ρ) p)
+
+      pub condition-needs : SomeConditions ws cs starts ends at end → ConditionIn ws cs starts ends i
+      condition-needs s =
+          let (c, more, y, e) = next-condition (s .valuation) (s .conditions) (s .is) in
+          record { valuation = s .valuation; condition = c; stands = first-condition ws cs starts ends end i (s .valuation) c more y }
+
+      module _ (r : Tested) (k : ConditionContract ws cs starts ends i r) where
+        pub holding-on : r .holds ≡ true → Holding (r .next)
+        holding-on h =
+            record { rest = λ ρ conds x. let (c, more, y, e) = next-condition ρ conds x in (more, later-conditions ws cs starts ends end i ρ c more y r k, e ∙ holds-on ws cs starts ends end i ρ c more y r k h) }
+
+        pub not-held : r .holds ≡ false → HoldAllIs ws cs starts ends at end false
+        not-held h = record { is = λ ρ conds x. let (c, more, y, e) = next-condition ρ conds x in sym (e ∙ holds-not ws cs starts ends end i ρ c more y r k h) }
+
+        pub holding-forward : SomeConditions ws cs starts ends at end → i < r .next
+        holding-forward s = let (c, more, y, e) = next-condition (s .valuation) (s .conditions) (s .is) in goes-forward ws cs starts ends end i (s .valuation) c more y r k

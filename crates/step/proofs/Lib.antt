@@ -1,0 +1,11 @@
+pub mod MatchingLaw
+pub mod MatchingVariable
+pub mod MatchingAnswer
+pub mod ConditionsLaw
+pub mod RightLaw
+pub mod RightLoopLaw
+pub mod RuleLaw
+pub mod ApplyLaw
+pub mod WaysLaw
+pub mod EarliestLaw
+pub mod AcceptLaw

@@ -1,0 +1,174 @@
+-- One turn of the walk over a left and a configuration, over terms: what it finds keeps the outcome of the match.
+use mathlib.Core.Path.{_≡_, refl, sym, _∙_, ap, ap₂, subst, subst⁻¹}
+use mathlib.Core.Bool.{Bool, true, false, _&&_, cond}
+use mathlib.Core.Option.{Option, none, some, Option·some-injective}
+use mathlib.Core.List.{List, [], _∷_, _++_, append-nil}
+use Prim.Native.Nat.{ℕ, _+_, _-_, _<_, _≤_}
+use native.Mathlib.Omega.{arith}
+use lib.Dec.{T}
+use lib.IntN.{ℤ, pos}
+use lib.ListN.{length, getD}
+use Rattle.minuska.specs.Basics.{_>>=_, sameWhole}
+use Rattle.minuska.specs.Term.{Label, Forest, nil, node, Term, single, termCount, role, groundAt}
+use Rattle.minuska.specs.Word.{tagWord, datumWord, okHead, ok, encode}
+use Rattle.minuska.specs.Satisfaction.{Valuation}
+use Rattle.minuska.specs.Rule.{symbolicAt, isSymbolic}
+use Rattle.minuska.specs.Computed.Read.{readNode}
+use Rattle.minuska.specs.Computed.Match.{tryMatch}
+use Rattle.minuska.specs.Computed.Walk.{matchWords}
+use Rattle.minuska.specs.Computed.Place.{Stands, GroundAt}
+use Rattle.minuska.proofs.Tests.{same-whole, whole-same}
+use Rattle.minuska.proofs.WordLaw.{okay, okay-all, head-okay, read-node, appended, encode-appended}
+use Rattle.minuska.proofs.WalkLaw.{flat}
+use Rattle.minuska.proofs.PlaceLaw.{stands-word, stands-head, stands-first, stands-second}
+use Rattle.minuska.proofs.AppendedLaw.{first-words, appended-count, appended-ok, labels, labels-all, appended-labels}
+use Rattle.step.specs.Matching.{Walk, Walking, TurnFrom, Turned}
+use Rattle.step.specs.declared.matching.Turn.the-variants.{Same, Misfit}
+
+abbrev pub word : List ℤ → ℕ → ℤ
+word ws i = getD ws i (pos 0)
+
+-- ---- the match of lists of terms, over their words
+alone : (o : Option Valuation) → (o >>= λ τ. matchWords [] [] τ) ≡ o
+alone none = refl
+alone (some τ) = refl
+
+words-match : (f g : Forest) → T (isSymbolic f) → T (ok f) → T (ok g) → termCount f ≡ termCount g → (σ : Valuation) → matchWords (encode f) (encode g) σ ≡ tryMatch f g σ
+words-match f g i x y c σ =
+    ap₂ (λ (u v : List ℤ). matchWords u v σ) (sym (append-nil (encode f))) (sym (append-nil (encode g))) ∙ (flat f g i x y c [] [] σ ∙ alone (tryMatch f g σ))
+
+not-same : (a b : ℤ) → (a ≡ b → ⊥) → sameWhole a b ≡ false
+not-same a b f = pick (sameWhole a b) refl
+  where
+    pick : (t : Bool) → sameWhole a b ≡ t → t ≡ false
+    pick true e = absurd (f (same-whole a b (subst⁻¹ T e tt)))
+    pick false e = refl
+
+is-same : (a b : ℤ) → a ≡ b → sameWhole a b ≡ true
+is-same a b e = pick (sameWhole a b) (subst (λ (x : ℤ). T (sameWhole a x)) e (whole-same a))
+  where
+    pick : (t : Bool) → T t → t ≡ true
+    pick true h = refl
+    pick false h = absurd h
+
+-- two nodes in range with the same words have as many children
+same-count : (l g : Label) (k m : ℕ) → T (okHead l k) → T (okHead g m) → tagWord l k ≡ tagWord g m → datumWord l ≡ datumWord g → k ≡ m
+same-count l g k m x y p q =
+    ap (λ (z : Label × ℕ). z .1)
+    (Option·some-injective (l, k) (g, m) (sym (read-node l k x) ∙ (ap₂ readNode p q ∙ read-node g m y)))
+
+-- ---- a node of each before its rest
+module _ {table : List ℤ} {end : ℕ} {config : List ℤ} {i j : ℕ} {starts ends : List ℕ} {o : Option Valuation} where
+  -- a variable whose end is not 0 is bound
+  pub has-part : {f g : Forest} {σ : Valuation} → Walk table end config i j starts ends f g σ o → (v : ℕ) → (getD ends v 0 ≡ 0 → ⊥) → (s : Term) × (σ v ≡ some s)
+  has-part {f} {g} {σ} w v z = pick (σ v) refl
+    where
+      pick : (x : Option Term) → σ v ≡ x → (s : Term) × (σ v ≡ some s)
+      pick none e = absurd (z (w .free v e))
+      pick (some s) e = (s, e)
+
+  -- the walk is at a node of each, unless the left is at its end
+  pub heads : {X : Type 0} → Walking table end config i j starts ends o → i < end → ((l : Label) (ls lss : Forest) (g : Label) (gs gss : Forest) (σ : Valuation) → Walk table end config i j starts ends (node l ls lss) (node g gs gss) σ o → X) → X
+  heads {X} w h go = pick (w .lefts) (w .grounds) (w .walk)
+    where
+      pick : (f g : Forest) → Walk table end config i j starts ends f g (w .valuation) o → X
+      pick nil g k = absurd (let e = k .leftEnds in let f : ⊥ = omega arith in f)
+      pick (node l ls lss) nil k = absurd (let f : ⊥ = omega (arith, k .asMany) in f)
+      pick (node l ls lss) (node g gs gss) k = go l ls lss g gs gss (w .valuation) k
+
+  module _ (l : Label) (ls lss : Forest) (g : Label) (gs gss : Forest) (σ : Valuation) (w : Walk table end config i j starts ends (node l ls lss) (node g gs gss) σ o) where
+    pub left-tag : word table i ≡ tagWord l (termCount ls)
+    left-tag = stands-head (w .leftStands) (pos 0)
+
+    pub left-datum : word table (i + 1) ≡ datumWord l
+    left-datum = stands-word (w .leftStands) 1 (pos 0) (omega arith)
+
+    ground-tag : word config j ≡ tagWord g (termCount gs)
+    ground-tag = stands-head (w .groundStands) (pos 0)
+
+    ground-datum : word config (j + 1) ≡ datumWord g
+    ground-datum = stands-word (w .groundStands) 1 (pos 0) (omega arith)
+
+    -- the configuration's term there
+    abbrev pub term : Term
+    term = record { label = g; children = gs }
+
+    pub words-here : Stands config j (encode (single term) ++ encode gss)
+    words-here = subst (Stands config j) (first-words g gs gss) (w .groundStands)
+
+    abbrev pub term-at : GroundAt config j
+    term-at =
+        let p = okay g gs gss (w .groundGood) in
+        let d = labels (λ z. groundAt (role z)) g gs gss (w .groundGround) in
+        record { term = term; good = okay-all g gs nil (p .allowed) (p .children) tt; ground = labels-all (λ z. groundAt (role z)) g gs nil (d .here) (d .children) tt; stands = stands-first (encode (single term)) (encode gss) words-here }
+
+    -- ---- a plain node
+    plain-outcome : (word table i ≡ pos 3 → ⊥) → (b : Bool) → sameWhole (tagWord l (termCount ls)) (tagWord g (termCount gs)) && sameWhole (datumWord l) (datumWord g) ≡ b → cond b (matchWords (encode ls ++ encode lss) (encode gs ++ encode gss) σ) none ≡ o
+    plain-outcome f b e =
+        rw (not-same (tagWord l (termCount ls)) (pos 3) (λ p. f (left-tag ∙ p)), e) at
+        (words-match (node l ls lss) (node g gs gss) (w .leftSymbolic) (w .leftGood) (w .groundGood) (w .asMany) σ ∙ w .outcome)
+
+    after-same : (word table i ≡ pos 3 → ⊥) → word table i ≡ word config j → word table (i + 1) ≡ word config (j + 1) → Walking table end config (i + 2) (j + 2) starts ends o
+    after-same f p q =
+        let p′ : tagWord l (termCount ls) ≡ tagWord g (termCount gs) = sym left-tag ∙ (p ∙ ground-tag) in
+        let q′ : datumWord l ≡ datumWord g = sym left-datum ∙ (q ∙ ground-datum) in
+        let a = okay l ls lss (w .leftGood) in
+        let b = okay g gs gss (w .groundGood) in
+        let c = labels (λ z. symbolicAt (role z)) l ls lss (w .leftSymbolic) in
+        let d = labels (λ z. groundAt (role z)) g gs gss (w .groundGround) in
+        let n = same-count l g (termCount ls) (termCount gs) (head-okay l ls (a .allowed)) (head-okay g gs (b .allowed)) p′ q′ in
+        let many : termCount (appended ls lss) ≡ termCount (appended gs gss) = omega (arith, w .asMany, appended-count ls lss, appended-count gs gss) in
+        let good = appended-ok ls lss (a .children) (a .rest) in
+        let sound = appended-ok gs gss (b .children) (b .rest) in
+        let symbolic = appended-labels (λ z. symbolicAt (role z)) ls lss (c .children) (c .rest) in
+        record {
+          lefts = appended ls lss;
+          grounds = appended gs gss;
+          valuation = σ;
+          walk = record {
+            leftGood = good;
+            leftSymbolic = symbolic;
+            leftStands = rw (encode-appended ls lss) (stands-second (tagWord l (termCount ls) ∷ datumWord l ∷ []) (encode ls ++ encode lss) (w .leftStands));
+            leftEnds = omega (arith, w .leftEnds, ap length (encode-appended ls lss));
+            groundGood = sound;
+            groundGround = appended-labels (λ z. groundAt (role z)) gs gss (d .children) (d .rest);
+            groundStands = rw (encode-appended gs gss) (stands-second (tagWord g (termCount gs) ∷ datumWord g ∷ []) (encode gs ++ encode gss) (w .groundStands));
+            asMany = many;
+            binds = w .binds;
+            free = w .free;
+            outcome =
+                sym (words-match (appended ls lss) (appended gs gss) symbolic good sound many σ) ∙
+                (ap₂ (λ (u v : List ℤ). matchWords u v σ) (encode-appended ls lss) (encode-appended gs gss) ∙
+                plain-outcome f true (ap₂ _&&_ (is-same (tagWord l (termCount ls)) (tagWord g (termCount gs)) p′) (is-same (datumWord l) (datumWord g) q′)));
+          };
+        }
+
+    after-other : (word table i ≡ pos 3 → ⊥) → (word table i ≡ word config j → word table (i + 1) ≡ word config (j + 1) → ⊥) → o ≡ none
+    after-other f h = pick (sameWhole (tagWord l (termCount ls)) (tagWord g (termCount gs))) (sameWhole (datumWord l) (datumWord g)) refl refl
+      where
+        pick : (a b : Bool) → sameWhole (tagWord l (termCount ls)) (tagWord g (termCount gs)) ≡ a → sameWhole (datumWord l) (datumWord g) ≡ b → o ≡ none
+        pick true true p q =
+            absurd
+            (h (left-tag ∙ (same-whole (tagWord l (termCount ls)) (tagWord g (termCount gs)) (subst⁻¹ T p tt) ∙ sym ground-tag))
+            (left-datum ∙ (same-whole (datumWord l) (datumWord g) (subst⁻¹ T q tt) ∙ sym ground-datum)))
+        pick true false p q = sym (plain-outcome f false (ap₂ _&&_ p q))
+        pick false b p q = sym (plain-outcome f false (ap (λ (z : Bool). z && sameWhole (datumWord l) (datumWord g)) p))
+
+-- ---- what one turn answers at a plain node
+module _ {table : List ℤ} {i : ℕ} {config : List ℤ} {j : ℕ} {starts ends : List ℕ} (plain : word table i ≡ pos 3 → ⊥) where
+  pub turned-same : word table i ≡ word config j → word table (i + 1) ≡ word config (j + 1) → Turned table i config j starts ends Same
+  turned-same p q = record { after = λ end o h w. heads w h (λ l ls lss g gs gss σ k. after-same l ls lss g gs gss σ k plain p q) }
+
+  pub turned-other : (word table i ≡ word config j → word table (i + 1) ≡ word config (j + 1) → ⊥) → Turned table i config j starts ends Misfit
+  turned-other f = record { after = λ end o h w. heads w h (λ l ls lss g gs gss σ k. after-other l ls lss g gs gss σ k plain f) }
+
+-- both have a node's two words there
+pub record Room (table : List ℤ) (i : ℕ) (config : List ℤ) (j : ℕ) : Type 0 where
+  pub left : i + 2 ≤ length table
+  pub ground : j + 2 ≤ length config
+
+pub room : {table : List ℤ} {i : ℕ} {config : List ℤ} {j : ℕ} {starts ends : List ℕ} → TurnFrom table i config j starts ends → Room table i config j
+room {table} {i} {config} {j} t = heads (t .walking) (t .before) λ l ls lss g gs gss σ k. record { left = omega (arith, k .leftStands .within); ground = omega (arith, k .groundStands .within) }
+
+pub ground-at : {table : List ℤ} {i : ℕ} {config : List ℤ} {j : ℕ} {starts ends : List ℕ} → TurnFrom table i config j starts ends → GroundAt config j
+ground-at t = heads (t .walking) (t .before) term-at

@@ -1,0 +1,193 @@
+-- One turn of the walk at a variable: bound anew, or bound before to a here that has the same words.
+use mathlib.Core.Path.{_≡_, refl, sym, _∙_, ap, subst, subst⁻¹, subst₂}
+use mathlib.Core.Bool.{Bool, true, false, cond}
+use mathlib.Core.Option.{Option, none, some, Option·some-injective, Option·none-ne-some}
+use mathlib.Core.List.{List, [], _∷_}
+use Prim.Native.Nat.{ℕ, _+_, _-_, _<_, _≤_}
+use native.Mathlib.Omega.{arith}
+use native.Mathlib.Decide.{ℕ-discrete}
+use lib.Dec.{T, eqb, ltb, eqb→eq, ltb→lt}
+use lib.IntN.{ℤ, pos, natAbs}
+use lib.Signed.{nonNeg}
+use lib.ListN.{length, take, drop, getD}
+use borrow.Author.Tests.{eq-eqb, ne-eqb}
+use Rattle.minuska.specs.Basics.{_>>=_, provided}
+use Rattle.minuska.specs.Term.{Label, error, truth, whole, variable, call, symbol, Forest, nil, node, Term, single, termCount, role, groundAt}
+use Rattle.minuska.specs.Word.{tagWord, datumWord, okNode, encode}
+use Rattle.minuska.specs.Satisfaction.{Valuation}
+use Rattle.minuska.specs.Rule.{symbolicAt}
+use Rattle.minuska.specs.Computed.Match.{sameTerm, assignNew, assignAt, tryMatch}
+use Rattle.minuska.specs.Computed.Place.{part, Stands, GroundAt, GroundEnds, BoundAt, Binds}
+use Rattle.minuska.proofs.Tests.{and-left, and-right, provided-true, same-term, term-same}
+use Rattle.minuska.proofs.WordLaw.{okay}
+use Rattle.minuska.proofs.PlaceLaw.{stands-second, stands-unique}
+use Rattle.minuska.proofs.AppendedLaw.{labels}
+use Rattle.step.specs.Matching.{Walk, Walking, TurnFrom, Put, Turned}
+use Rattle.step.specs.declared.matching.Turn.the-variants.{Bind, Again, Misfit}
+use Rattle.step.proofs.MatchingLaw.{word, has-part, heads, left-tag, left-datum, words-here, term-at}
+
+-- the tag 3 is a variable's
+tag-three : (l : Label) (k : ℕ) → tagWord l k ≡ pos 3 → (v : ℕ) × (l ≡ variable v)
+tag-three error k e = absurd (let z : _≡_ {A = ℕ} 0 3 = ap natAbs e in let f : ⊥ = omega arith in f)
+tag-three (truth b) k e = absurd (let z : _≡_ {A = ℕ} 1 3 = ap natAbs e in let f : ⊥ = omega arith in f)
+tag-three (whole n) k e = absurd (let z : _≡_ {A = ℕ} 2 3 = ap natAbs e in let f : ⊥ = omega arith in f)
+tag-three (variable v) k e = (v, refl)
+tag-three (call c) k e = absurd (let z : _≡_ {A = ℕ} 4 3 = ap natAbs e in let f : ⊥ = omega arith in f)
+tag-three (symbol s) k e = absurd (let z : 8 + k ≡ 3 = ap natAbs e in let f : ⊥ = omega arith in f)
+
+childless : (f : Forest) → termCount f ≡ 0 → f ≡ nil
+childless nil c = refl
+childless (node l cs ss) c = absurd (let f : ⊥ = omega (arith, c) in f)
+
+module _ {table : List ℤ} {end : ℕ} {config : List ℤ} {i j : ℕ} {starts ends : List ℕ} {o : Option Valuation} where
+  -- the walk is at a variable, if the tag says so
+  at-variable : {X : Type 0} {v : ℕ} → Walking table end config i j starts ends o → i < end → word table i ≡ pos 3 → v ≡ natAbs (word table (i + 1)) → ((lss : Forest) (g : Label) (gs gss : Forest) (σ : Valuation) → v < 16 → word table (i + 1) ≡ pos v → Walk table end config i j starts ends (node (variable v) nil lss) (node g gs gss) σ o → X) → X
+  at-variable {X} {v} w h three e go = heads w h pick
+    where
+      pick : (l : Label) (ls lss : Forest) (g : Label) (gs gss : Forest) (σ : Valuation) → Walk table end config i j starts ends (node l ls lss) (node g gs gss) σ o → X
+      pick l ls lss g gs gss σ k =
+          let t = tag-three l (termCount ls) (sym (left-tag l ls lss g gs gss σ k) ∙ three) in
+          let d : word table (i + 1) ≡ pos (t .0) = left-datum l ls lss g gs gss σ k ∙ ap datumWord (t .1) in
+          let n : v ≡ t .0 = e ∙ ap natAbs d in
+          let p : l ≡ variable v = t .1 ∙ ap variable (sym n) in
+          let x : T (okNode (variable v) ls) = subst (λ (m : Label). T (okNode m ls)) p (okay l ls lss (k .leftGood) .allowed) in
+          let z = childless ls (eqb→eq (termCount ls) 0 (and-right (ltb v 16) (eqb (termCount ls) 0) x)) in
+          go lss g gs gss σ (ltb→lt v 16 (and-left (ltb v 16) (eqb (termCount ls) 0) x)) (d ∙ ap pos (sym n))
+          (subst₂ (λ (m : Label) (c : Forest). Walk table end config i j starts ends (node m c lss) (node g gs gss) σ o) p z k)
+
+  module _ (v : ℕ) (lss : Forest) (g : Label) (gs gss : Forest) (σ : Valuation) (w : Walk table end config i j starts ends (node (variable v) nil lss) (node g gs gss) σ o) where
+    abbrev here : Term
+    here = record { label = g; children = gs }
+
+    abbrev found : GroundAt config j
+    found = term-at (variable v) nil lss g gs gss σ w
+
+    -- the walk goes on behind the variable and behind the here
+    behind : (e : ℕ) → e ≡ j + length (encode (single here)) → (starts′ ends′ : List ℕ) (τ : Valuation) → Binds config starts′ ends′ τ → ((u : ℕ) → τ u ≡ none → getD ends′ u 0 ≡ 0) → tryMatch lss gss τ ≡ o → Walking table end config (i + 2) e starts′ ends′ o
+    behind e at starts′ ends′ τ binds free outcome =
+        let a = okay (variable v) nil lss (w .leftGood) in
+        let b = okay g gs gss (w .groundGood) in
+        let c = labels (λ z. symbolicAt (role z)) (variable v) nil lss (w .leftSymbolic) in
+        let d = labels (λ z. groundAt (role z)) g gs gss (w .groundGround) in
+        record {
+          lefts = lss;
+          grounds = gss;
+          valuation = τ;
+          walk = record {
+            leftGood = a .rest;
+            leftSymbolic = c .rest;
+            leftStands = stands-second (tagWord (variable v) 0 ∷ datumWord (variable v) ∷ []) (encode lss) (w .leftStands);
+            leftEnds = omega (arith, w .leftEnds);
+            groundGood = b .rest;
+            groundGround = d .rest;
+            groundStands = rw at (stands-second (encode (single here)) (encode gss) (words-here (variable v) nil lss g gs gss σ w));
+            asMany = omega (arith, w .asMany);
+            binds = binds;
+            free = free;
+            outcome = outcome;
+          };
+        }
+
+    -- ---- a variable with no part yet
+    no-part : getD ends v 0 ≡ 0 → σ v ≡ none
+    no-part z = pick (σ v) refl
+      where
+        pick : (x : Option Term) → σ v ≡ x → x ≡ none
+        pick none e = refl
+        pick (some s) e = absurd (let b = w .binds .places v s e .ends in let f : ⊥ = omega arith in f)
+
+    after-bind : v < 16 → (e : ℕ) → getD ends v 0 ≡ 0 → e ≡ j + length (encode (single here)) → (starts′ ends′ : List ℕ) → Put starts starts′ v j → Put ends ends′ v e → Walking table end config (i + 2) e starts′ ends′ o
+    after-bind low e z at starts′ ends′ ps pe =
+        behind e at starts′ ends′ (assignNew σ v here) (record { places = λ u. place u (ℕ-discrete u v) }) (λ u. open-end u (ℕ-discrete u v))
+        (sym (ap (λ (x : Option Term). assignAt x σ v here >>= λ τ. tryMatch lss gss τ) (no-part z)) ∙ w .outcome)
+      where
+        at-it : (u : ℕ) → u ≡ v → assignNew σ v here u ≡ some here
+        at-it u p = ap (λ (b : Bool). cond b (some here) (σ u)) (eq-eqb u v p)
+
+        there : (u : ℕ) → (u ≡ v → ⊥) → assignNew σ v here u ≡ σ u
+        there u f = ap (λ (b : Bool). cond b (some here) (σ u)) (ne-eqb u v f)
+
+        place : (u : ℕ) → Dec (u ≡ v) → (t : Term) → assignNew σ v here u ≡ some t → BoundAt config (getD starts′ u 0) (getD ends′ u 0) u t
+        place u (yes p) t q =
+            rw (p, ps .here, pe .here)
+            (subst (BoundAt config j e v) (Option·some-injective here t (sym (at-it u p) ∙ q))
+            (record { variable = low; good = found .good; ground = found .ground; stands = found .stands; ends = at }))
+        place u (no f) t q = rw (ps .others u f, pe .others u f) (w .binds .places u t (sym (there u f) ∙ q))
+
+        open-end : (u : ℕ) → Dec (u ≡ v) → assignNew σ v here u ≡ none → getD ends′ u 0 ≡ 0
+        open-end u (yes p) q = absurd (Option·none-ne-some here (sym q ∙ at-it u p))
+        open-end u (no f) q = pe .others u f ∙ w .free u (sym (there u f) ∙ q)
+
+    -- ---- a variable that has a part
+    module _ (s : Term) (p : σ v ≡ some s) where
+      abbrev bound : BoundAt config (getD starts v 0) (getD ends v 0) v s
+      bound = w .binds .places v s p
+
+      -- the part's words are its term's
+      part-words : part config (getD starts v 0) (getD ends v 0) ≡ encode (single s)
+      part-words =
+          let n : getD ends v 0 - getD starts v 0 ≡ length (encode (single s)) = omega (arith, bound .ends) in
+          ap (λ (k : ℕ). take k (drop (getD starts v 0) config)) n ∙ bound .stands .words
+
+      again-outcome : assignAt (some s) σ v here >>= (λ τ. tryMatch lss gss τ) ≡ o
+      again-outcome = rw p at (w .outcome)
+
+      after-again : (e : ℕ) → e ≡ j + (getD ends v 0 - getD starts v 0) → e ≤ length config → part config (getD starts v 0) (getD ends v 0) ≡ part config j e → Walking table end config (i + 2) e starts ends o
+      after-again e at h same =
+          let n : length (encode (single s)) ≡ e - j = omega (arith, bound .ends) in
+          let x : Stands config j (encode (single s)) = record { words = ap (λ (k : ℕ). take k (drop j config)) n ∙ (sym same ∙ part-words); within = omega (arith, bound .ends) } in
+          let q : s ≡ here = stands-unique s here (bound .good) (found .good) x (found .stands) in
+          behind e (omega (arith, bound .ends, ap (λ (t : Term). length (encode (single t))) q)) starts ends σ (w .binds) (w .free)
+          (sym (ap (λ (y : Option Valuation). y >>= λ τ. tryMatch lss gss τ) (provided-true (sameTerm s here) σ (subst (λ (t : Term). T (sameTerm s t)) q (term-same s)))) ∙ again-outcome)
+
+      after-differs : (s ≡ here → ⊥) → o ≡ none
+      after-differs f = pick (sameTerm s here) refl
+        where
+          pick : (b : Bool) → sameTerm s here ≡ b → o ≡ none
+          pick true e = absurd (f (same-term s here (subst⁻¹ T e tt)))
+          pick false e = sym again-outcome ∙ ap (λ (b : Bool). provided b σ >>= λ τ. tryMatch lss gss τ) e
+
+      -- a part with other words is another term's; a term ends within the configuration
+      after-other-words : (e : ℕ) → e ≡ j + (getD ends v 0 - getD starts v 0) → (part config (getD starts v 0) (getD ends v 0) ≡ part config j e → ⊥) → o ≡ none
+      after-other-words e at f =
+          after-differs λ q.
+          let n : e - j ≡ length (encode (single here)) = omega (arith, bound .ends, ap (λ (t : Term). length (encode (single t))) q) in
+          f (part-words ∙ (ap (λ (t : Term). encode (single t)) q ∙ (sym (found .stands .words) ∙ ap (λ (k : ℕ). take k (drop j config)) (sym n))))
+
+      after-long : (e : ℕ) → e ≡ j + (getD ends v 0 - getD starts v 0) → length config < e → o ≡ none
+      after-long e at h =
+          after-differs λ q.
+          omega (arith, bound .ends, ap (λ (t : Term). length (encode (single t))) q, found .stands .within)
+
+-- ---- what one turn answers at a variable
+module _ {table : List ℤ} {i : ℕ} {config : List ℤ} {j : ℕ} {starts ends : List ℕ} {v : ℕ} (three : word table i ≡ pos 3) (number : v ≡ natAbs (word table (i + 1))) where
+  pub turned-bind : getD ends v 0 ≡ 0 → {e : ℕ} → GroundEnds config j e → Turned table i config j starts ends (Bind v e)
+  turned-bind z {e} t =
+      record { after = λ end o h w. at-variable w h three number λ lss g gs gss σ low d k. let x = found v lss g gs gss σ k in let a = t .ends (x .term) (x .good) (x .ground) (x .stands) in (low, omega (arith, a), after-bind v lss g gs gss σ k low e z a) }
+
+  module _ (z : getD ends v 0 ≡ 0 → ⊥) {e : ℕ} (at : e ≡ j + (getD ends v 0 - getD starts v 0)) where
+    pub turned-again : e ≤ length config → part config (getD starts v 0) (getD ends v 0) ≡ part config j e → Turned table i config j starts ends (Again e)
+    turned-again h same =
+        record { after = λ end o m w. at-variable w m three number λ lss g gs gss σ low d k. let x = has-part k v z in after-again v lss g gs gss σ k (x .0) (x .1) e at h same }
+
+    pub turned-differs : (part config (getD starts v 0) (getD ends v 0) ≡ part config j e → ⊥) → Turned table i config j starts ends Misfit
+    turned-differs f =
+        record { after = λ end o m w. at-variable w m three number λ lss g gs gss σ low d k. let x = has-part k v z in after-other-words v lss g gs gss σ k (x .0) (x .1) e at f }
+
+    pub turned-long : length config < e → Turned table i config j starts ends Misfit
+    turned-long h =
+        record { after = λ end o m w. at-variable w m three number λ lss g gs gss σ low d k. let x = has-part k v z in after-long v lss g gs gss σ k (x .0) (x .1) e at h }
+
+  -- the variable's number is below 16, and its part, if it has one, lies in the configuration
+  module _ (t : TurnFrom table i config j starts ends) where
+    pub number-fits : T (nonNeg (word table (i + 1))) × (v < 16)
+    number-fits = at-variable (t .walking) (t .before) three number λ lss g gs gss σ low d k. (subst⁻¹ (λ (y : ℤ). T (nonNeg y)) d tt, low)
+
+    pub part-within : (getD ends v 0 ≡ 0 → ⊥) → (getD starts v 0 ≤ getD ends v 0) × (getD ends v 0 ≤ length config)
+    part-within z =
+        at-variable (t .walking) (t .before) three number λ lss g gs gss σ low d k.
+        let x = has-part k v z in
+        let b = bound v lss g gs gss σ k (x .0) (x .1) in
+        let y = b .stands .within in
+        let q = b .ends in
+        (omega arith, omega arith)

@@ -1,0 +1,211 @@
+-- `turn_at` meets its contract: each answer is one lemma of `MatchingLaw` or `MatchingVariable` at the words that were read.
+use mathlib.Core.Path.{_≡_, refl, sym, _∙_, ap, subst⁻¹}
+use Prim.Native.Nat.{ℕ, _+_, _<_, _≤_}
+use native.Mathlib.Omega.{arith}
+use lib.Dec.{T, lit<}
+use lib.IntN.{ℤ, pos, natAbs}
+use lib.Signed.{nonNeg}
+use lib.ListN.{length, getD}
+use mir.Syntax.{w64}
+use mir.Val.{SFits, toZ, ofZ}
+use mir.ValLaws.{toZ-ofZ}
+use borrow.Author.Needs.{needs}
+use Rattle.term.proofs.SignedLaw.{same-bits}
+use Rattle.step.proofs.MatchingLaw.{word, room, ground-at, turned-same, turned-other}
+use Rattle.step.proofs.MatchingVariable.{number-fits, part-within, turned-bind, turned-again, turned-differs, turned-long}
+use Rattle.step.proofs.matching.turn_at.Statement.{statement}
+use Rattle.step.proofs.matching.turn_at.Tie as tie
+
+-- two words that were read, with the same bits
+word-same : {a b x y : ℤ} → SFits w64 a → SFits w64 b → a ≡ x → b ≡ y → ofZ w64 a ≡ ofZ w64 b → x ≡ y
+word-same {a} {b} f g p q e = sym p ∙ (same-bits a b f g e ∙ q)
+
+-- at a plain node: its tag is not a variable's
+plain : (c : tie.Then1) → word (c .before .before .before .args .table .now) (c .before .before .before .args .i) ≡ pos 3 → ⊥
+plain c e = c .if1 .taken (ap (ofZ w64) (c .before .before .word .ensures ∙ e))
+
+-- at a variable: its tag; its number, which is below 16; its part, if it has one
+module _ (c : tie.Else1) where
+  abbrev start : tie.Start
+  start = c .before .before .before
+
+  abbrev v : ℕ
+  v = natAbs (toZ w64 (ofZ w64 (c .before .word2 .result)))
+
+  three : word (start .args .table .now) (start .args .i) ≡ pos 3
+  three =
+      let t = c .before .before .word .result in
+      let f : SFits w64 t = search needs in
+      word-same f (record { sfits = lit< tt }) (c .before .before .word .ensures) refl (c .if1 .left)
+
+  datum : toZ w64 (ofZ w64 (c .before .word2 .result)) ≡ word (start .args .table .now) (start .args .i + 1)
+  datum =
+      let d = c .before .word2 .result in
+      let f : SFits w64 d = search needs in
+      toZ-ofZ w64 d f ∙ c .before .word2 .ensures
+
+  number : v ≡ natAbs (word (start .args .table .now) (start .args .i + 1))
+  number = ap natAbs datum
+
+  low : T (nonNeg (word (start .args .table .now) (start .args .i + 1))) × (v < 16)
+  low = number-fits three number (start .pre)
+
+  within : (getD (start .args .ends .now) v 0 ≡ 0 → ⊥) → (getD (start .args .starts .now) v 0 ≤ getD (start .args .ends .now) v 0) × (getD (start .args .ends .now) v 0 ≤ length (start .args .configuration .now))
+  within z = part-within three number (start .pre) z
+
+word-requires : tie.Need-word-requires
+word-requires c κs = search needs
+
+add-word : tie.Need-add-word
+add-word c = search needs
+
+word-requires-2 : tie.Need-word-requires-2
+word-requires-2 c κs = let r = room (c .before .pre) in omega arith
+
+word-requires-3 : tie.Need-word-requires-3
+word-requires-3 c κs = let r = room (c .before .before .before .pre) in omega arith
+
+returns : tie.Need-returns
+returns c =
+    turned-other (plain (c .before .before))
+    (λ p q. c .if2 .taken (ap (ofZ w64) (c .before .before .before .before .word .ensures ∙ (p ∙ sym (c .before .word3 .ensures)))))
+
+add-word-2 : tie.Need-add-word-2
+add-word-2 c = search needs
+
+word-requires-4 : tie.Need-word-requires-4
+word-requires-4 c κs = let r = room (c .before .before .before .before .before .pre) in omega arith
+
+returns-2 : tie.Need-returns-2
+returns-2 c =
+    turned-other (plain (c .before .before .before .before))
+    (λ p q. c .if3 .taken (ap (ofZ w64) (c .before .before .before .before .before .word2 .ensures ∙ (q ∙ sym (c .before .word4 .ensures)))))
+
+returns-3 : tie.Need-returns-3
+returns-3 c =
+    let t = c .before .before .before .before .before .before .word .result in
+    let d = c .before .before .before .before .before .word2 .result in
+    let x = c .before .before .before .word3 .result in
+    let y = c .before .word4 .result in
+    let ft : SFits w64 t = search needs in
+    let fd : SFits w64 d = search needs in
+    let fx : SFits w64 x = search needs in
+    let fy : SFits w64 y = search needs in
+    turned-same (plain (c .before .before .before .before))
+    (word-same ft fx (c .before .before .before .before .before .before .word .ensures) (c .before .before .before .word3 .ensures) (c .before .before .if2 .left))
+    (word-same fd fy (c .before .before .before .before .before .word2 .ensures) (c .before .word4 .ensures) (c .if3 .left))
+
+cast-v : tie.Need-cast-v
+cast-v c = (subst⁻¹ (λ (y : ℤ). T (nonNeg y)) (datum c) (low c .0), record { fits = omega (arith, low c .1) })
+
+mul-to : tie.Need-mul-to
+mul-to c = record { fits = omega (arith, low c .1) }
+
+element-copy-out-to : tie.Need-element-copy-out-to
+element-copy-out-to c = low c .1
+
+ground-end-requires : tie.Need-ground-end-requires
+ground-end-requires c κs = ground-at (start (c .before .before) .pre)
+
+returns-4 : tie.Need-returns-4
+returns-4 c =
+    let b = c .before .before .before in
+    turned-bind (three b) (number b) (c .before .if4 .taken) (c .ground-end .ensures)
+
+mul-from : tie.Need-mul-from
+mul-from c = record { fits = omega (arith, low (c .before .before) .1) }
+
+element-copy-out-from : tie.Need-element-copy-out-from
+element-copy-out-from c = low (c .before .before) .1
+
+sub-end : tie.Need-sub-end
+sub-end c = within (c .before .before .before) (c .before .if4 .left) .0
+
+add-end : tie.Need-add-end
+add-end c =
+    let z = start (c .before .before .before) in
+    let w = within (c .before .before .before) (c .before .if4 .left) in
+    let r = room (z .pre) in
+    record { fits = omega (arith, w .0, w .1, r .ground, z .good .1 .1 .0 .1) }
+
+returns-5 : tie.Need-returns-5
+returns-5 c =
+    let b = c .before .before .before .before in
+    turned-long (three b) (number b) (c .before .before .if4 .left) refl (c .if5 .taken)
+
+mul-same-words : tie.Need-mul-same-words
+mul-same-words c =
+    let z = start (c .before .before .before .before) in
+    let w = within (c .before .before .before .before) (c .before .before .if4 .left) in
+    record { fits = omega (arith, w .0, w .1, z .good .1 .1 .0 .1) }
+
+sub-same-words : tie.Need-sub-same-words
+sub-same-words c = within (c .before .before .before .before) (c .before .before .if4 .left) .0
+
+part-same-words-start : tie.Need-part-same-words-start
+part-same-words-start c = within (c .before .before .before .before) (c .before .before .if4 .left) .0
+
+part-same-words-end : tie.Need-part-same-words-end
+part-same-words-end c = within (c .before .before .before .before) (c .before .before .if4 .left) .1
+
+mul-same-words-2 : tie.Need-mul-same-words-2
+mul-same-words-2 c = search needs
+
+sub-same-words-2 : tie.Need-sub-same-words-2
+sub-same-words-2 c = search needs
+
+part-same-words-start-2 : tie.Need-part-same-words-start-2
+part-same-words-start-2 c = search needs
+
+part-same-words-end-2 : tie.Need-part-same-words-end-2
+part-same-words-end-2 c = search needs
+
+same-words-requires : tie.Need-same-words-requires
+same-words-requires c κs = search needs
+
+returns-6 : tie.Need-returns-6
+returns-6 c =
+    let e = c .before .before .before .before in
+    let b = e .before .before .before .before in
+    turned-again (three b) (number b) (e .before .before .if4 .left) refl (e .if5 .left) (c .before .same-words .ensures .yes (c .if6 .taken))
+
+returns-7 : tie.Need-returns-7
+returns-7 c =
+    let e = c .before .before .before .before in
+    let b = e .before .before .before .before in
+    turned-differs (three b) (number b) (e .before .before .if4 .left) refl (c .before .same-words .ensures .no (c .if6 .left))
+
+pub turn-at-spec : {M : Type 1} → statement M
+turn-at-spec =
+    tie.close
+    (tie.spec
+    word-requires
+    add-word
+    word-requires-2
+    word-requires-3
+    returns
+    add-word-2
+    word-requires-4
+    returns-2
+    returns-3
+    cast-v
+    mul-to
+    element-copy-out-to
+    ground-end-requires
+    returns-4
+    mul-from
+    element-copy-out-from
+    sub-end
+    add-end
+    returns-5
+    mul-same-words
+    sub-same-words
+    part-same-words-start
+    part-same-words-end
+    mul-same-words-2
+    sub-same-words-2
+    part-same-words-start-2
+    part-same-words-end-2
+    same-words-requires
+    returns-6
+    returns-7)

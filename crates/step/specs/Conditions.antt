@@ -1,0 +1,41 @@
+-- A rule's conditions, one behind the other: two expressions each, all worth a term.
+use mathlib.Core.Path.{_≡_}
+use mathlib.Core.Bool.{Bool}
+use mathlib.Core.Option.{some}
+use mathlib.Core.List.{List, [], _∷_}
+use Prim.Native.Nat.{ℕ, _+_}
+use lib.Dec.{T}
+use lib.IntN.{ℤ}
+use lib.ListN.{length}
+use Rattle.minuska.specs.Term.{Term, single}
+use Rattle.minuska.specs.Word.{ok}
+use Rattle.minuska.specs.Satisfaction.{Valuation, SideCondition}
+use Rattle.minuska.specs.Rule.{isExpression, conditionWords}
+use Rattle.minuska.specs.Computed.Value.{value, holdAll}
+use Rattle.minuska.specs.Computed.Place.{Stands, Binds}
+
+pub record Side (ρ : Valuation) (e : Term) : Type 0 where
+  pub good : T (ok (single e))
+  pub expression : T (isExpression (single e))
+  pub term : Term
+  pub is : value ρ e ≡ some term
+
+abbrev pub Sides : Valuation → List SideCondition → Type 0
+Sides ρ [] = Unit {0}
+Sides ρ (c ∷ cs) = Side ρ (c .first) × Side ρ (c .second) × Sides ρ cs
+
+module _ (ws cs : List ℤ) (starts ends : List ℕ) where
+  -- they stand from a place up to another
+  pub record Conditions (at end : ℕ) (ρ : Valuation) (conds : List SideCondition) : Type 0 where
+    pub sides : Sides ρ conds
+    pub stands : Stands ws at (conditionWords conds)
+    pub upTo : end ≡ at + length (conditionWords conds)
+    pub binds : Binds cs starts ends ρ
+
+  pub record SomeConditions (at end : ℕ) : Type 0 where
+    pub valuation : Valuation
+    pub conditions : List SideCondition
+    pub is : Conditions at end valuation conditions
+
+  pub record HoldAllIs (at end : ℕ) (r : Bool) : Type 0 where
+    pub is : (ρ : Valuation) (conds : List SideCondition) → Conditions at end ρ conds → r ≡ holdAll ρ conds

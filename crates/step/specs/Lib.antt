@@ -1,0 +1,5 @@
+pub mod Apply
+pub mod Matching
+pub mod Conditions
+pub mod Right
+pub mod Accept

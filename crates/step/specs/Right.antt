@@ -1,0 +1,58 @@
+-- The words of a right, item by item: a plain node's two words, a variable's part, or a call's value.
+use mathlib.Core.Path.{_≡_}
+use mathlib.Core.Option.{some}
+use mathlib.Core.List.{List, _++_}
+use Prim.Native.Nat.{ℕ, _+_, _≤_, _<_}
+use lib.Dec.{T}
+use lib.IntN.{ℤ}
+use lib.ListN.{length}
+use Rattle.minuska.specs.Term.{Forest}
+use Rattle.minuska.specs.Word.{ok, encode}
+use Rattle.minuska.specs.Satisfaction.{Valuation}
+use Rattle.minuska.specs.Rule.{isExpressionTerm}
+use Rattle.minuska.specs.Slice.{write}
+use Rattle.minuska.specs.Computed.Walk.{emit}
+use Rattle.minuska.specs.Computed.Place.{Stands, Binds}
+use Rattle.value.specs.declared.Evaluated.{Evaluated}
+use Rattle.value.specs.Value.{valueWords, Within}
+use Rattle.step.specs.declared.right.Fit.{Fit}
+use Rattle.step.specs.Apply.{fitOf}
+
+module _ (ws cs : List ℤ) (starts ends : List ℕ) where
+  -- from a place up to another stand the terms f of a right, and under ρ, whose terms the arrays place, they emit the words us
+  pub record Rest (at end : ℕ) (ρ : Valuation) (f : Forest) (us : List ℤ) : Type 0 where
+    pub good : T (ok f)
+    pub shape : T (isExpressionTerm f)
+    pub stands : Stands ws at (encode f)
+    pub upTo : end ≡ at + length (encode f)
+    pub emits : emit ρ f ≡ some us
+    pub binds : Binds cs starts ends ρ
+
+  pub record SomeRest (at end : ℕ) : Type 0 where
+    pub valuation : Valuation
+    pub terms : Forest
+    pub words : List ℤ
+    pub is : Rest at end valuation terms words
+
+  -- one item: its words are the next that are emitted, and the rest goes on behind it
+  pub record ItemOf (at end : ℕ) (ρ : Valuation) (us : List ℤ) (r : Evaluated) : Type 0 where
+    pub later : Forest
+    pub words : List ℤ
+    pub parted : valueWords ws cs (r .value) ++ words ≡ us
+    pub within : Within ws cs (r .value)
+    pub forward : at < r .next
+    pub rest : Rest (r .next) end ρ later words
+
+  pub record ItemIs (at end : ℕ) (r : Evaluated) : Type 0 where
+    pub is : (ρ : Valuation) (f : Forest) (us : List ℤ) → Rest at end ρ f us → ItemOf at end ρ us r
+
+  -- all items: how many words, if there is room; the words themselves, written from the start of a slice
+  pub record MeasureRightIs (at end room : ℕ) (r : Fit) : Type 0 where
+    pub is : (ρ : Valuation) (f : Forest) (us : List ℤ) → Rest at end ρ f us → r ≡ fitOf room (length us)
+
+  pub record FittingRest (at end room : ℕ) : Type 0 where
+    pub rest : SomeRest at end
+    pub fit : length (rest .words) ≤ room
+
+  pub record WriteRightIs (at end : ℕ) (out out′ : List ℤ) : Type 0 where
+    pub is : (ρ : Valuation) (f : Forest) (us : List ℤ) → Rest at end ρ f us → out′ ≡ write us out

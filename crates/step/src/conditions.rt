@@ -1,0 +1,25 @@
+// A rule's conditions, one after the other.
+ghost use Rattle.step.specs.Conditions.{SomeConditions, HoldAllIs};
+
+// Whether all conditions that stand from a place up to another hold.
+pub fn hold_all<'a>(
+    table: &'a [i64],
+    configuration: &'a [i64],
+    at: usize,
+    end: usize,
+    starts: &[usize; 16],
+    ends: &[usize; 16],
+) -> bool
+    requires { ⌜ SomeConditions (now table) (now configuration) (now starts) (now ends) at end ⌝ }
+    ensures { λ r. ⌜ HoldAllIs (now (table .entry)) (now (configuration .entry)) (now (starts .entry)) (now (ends .entry)) at end r ⌝ }
+{
+    let mut i = at;
+    while i < end {
+        let c = value::condition(table, configuration, i, starts, ends);
+        if !c.holds {
+            return false;
+        }
+        i = c.next;
+    }
+    true
+}

@@ -1,0 +1,206 @@
+// One step: by a given rule, and by the earliest that applies.
+pub mod conditions;
+pub mod matching;
+pub mod right;
+pub mod rule;
+
+use minuska::Check;
+use minuska::Refusal;
+use minuska::StepAnswer;
+use right::Fit;
+ghost use mathlib.Core.Path.{_≡_};
+ghost use Rattle.minuska.specs.Contract.{StepByRuleContract, StepContract};
+ghost use Rattle.minuska.specs.Computed.Place.{Indexed, Accepted, RuleCountIs, ActionIs, OrderedIs, Decides};
+ghost use Rattle.minuska.specs.Slice.{outLimit};
+ghost use Rattle.step.specs.Accept.{AcceptContract};
+ghost use Rattle.step.specs.Apply.{SomeMatched, Instantiated};
+
+// The step by one given rule, of checked words.
+pub fn apply_rule<'a>(
+    table: &'a [i64],
+    index: &[usize; 1024],
+    configuration: &'a [i64],
+    rule: usize,
+    out: &mut [i64],
+) -> StepAnswer
+    requires { ⌜ Indexed (now table) (now index) × Accepted (now configuration) ⌝ }
+    ensures { λ r. ⌜ StepByRuleContract (now (table .entry)) (now (configuration .entry)) rule (now (out .entry)) (now (out .exit)) r ⌝ }
+{
+    let mut starts = [0usize; 16];
+    let mut ends = [0usize; 16];
+    try_rule(
+        table,
+        index,
+        configuration,
+        rule,
+        &mut starts,
+        &mut ends,
+        out,
+    )
+}
+
+// The same, with two arrays lent for where the left's variables stand.
+pub fn try_rule<'a>(
+    table: &'a [i64],
+    index: &[usize; 1024],
+    configuration: &'a [i64],
+    rule: usize,
+    starts: &mut [usize; 16],
+    ends: &mut [usize; 16],
+    out: &mut [i64],
+) -> StepAnswer
+    requires { ⌜ Indexed (now table) (now index) × Accepted (now configuration) ⌝ }
+    ensures { λ r. ⌜ StepByRuleContract (now (table .entry)) (now (configuration .entry)) rule (now (out .entry)) (now (out .exit)) r ⌝ }
+{
+    if table::rule_count(table, index) <= rule {
+        return StepAnswer::Stuck;
+    }
+    if !rule::match_rule(table, index, rule, configuration, starts, ends) {
+        return StepAnswer::Stuck;
+    }
+    if !rule::conditions_hold(table, index, rule, configuration, starts, ends) {
+        return StepAnswer::Stuck;
+    }
+    write_within(table, index, configuration, rule, starts, ends, out)
+}
+
+// The successor by a rule whose left matches and whose conditions hold, if it is within the limit that out gives.
+pub fn write_within<'a>(
+    table: &'a [i64],
+    index: &[usize; 1024],
+    configuration: &'a [i64],
+    rule: usize,
+    starts: &[usize; 16],
+    ends: &[usize; 16],
+    out: &mut [i64],
+) -> StepAnswer
+    requires { ⌜ Indexed (now table) (now index) × SomeMatched (now table) (now configuration) rule (now starts) (now ends) ⌝ }
+    ensures { λ r. ⌜ Instantiated (now (table .entry)) (now (configuration .entry)) rule (now (starts .entry)) (now (ends .entry)) (now (out .entry)) (now (out .exit)) r ⌝ }
+{
+    let room = 2 * out_limit(out.len());
+    match rule::measure(table, index, rule, configuration, starts, ends, room) {
+        Fit::TooLarge => StepAnswer::Refused(Refusal::OverLimit),
+        Fit::Words(n) => {
+            rule::write_successor(table, index, rule, configuration, starts, ends, out);
+            StepAnswer::Stepped {
+                rule,
+                action: table::action(table, index, rule),
+                nodes: n / 2,
+            }
+        }
+    }
+}
+
+// "The ceiling is half the out slice's words, rounded down, at most 32,768 nodes."
+pub fn out_limit(words: usize) -> usize
+    ensures { λ r. ⌜ r ≡ outLimit words ⌝ }
+{
+    if words < 65536 { words / 2 } else { 32768 }
+}
+
+// The step, of checked words.
+pub fn apply_earliest<'a>(
+    table: &'a [i64],
+    index: &[usize; 1024],
+    configuration: &'a [i64],
+    out: &mut [i64],
+) -> StepAnswer
+    requires { ⌜ Indexed (now table) (now index) × Accepted (now configuration) ⌝ }
+    ensures { λ r. ⌜ StepContract (now (table .entry)) (now (configuration .entry)) (now (out .entry)) (now (out .exit)) r ⌝ }
+{
+    let mut starts = [0usize; 16];
+    let mut ends = [0usize; 16];
+    let count = table::rule_count(table, index);
+    let mut i = 0;
+    while i < count {
+        let rule = table::ordered(table, index, i);
+        let tried = try_rule(
+            table,
+            index,
+            configuration,
+            rule,
+            &mut starts,
+            &mut ends,
+            out,
+        );
+        i += 1;
+        if !is_stuck(tried) {
+            return tried;
+        }
+    }
+    StepAnswer::Stuck
+}
+
+// Whether a rule did not apply.
+pub fn is_stuck(answer: StepAnswer) -> bool
+    ensures { λ r. ⌜ Decides r (answer ≡ StepAnswer.Stuck) ⌝ }
+{
+    match answer {
+        StepAnswer::Stuck => true,
+        StepAnswer::Stepped {
+            rule: _,
+            action: _,
+            nodes: _,
+        } => false,
+        StepAnswer::Refused(_) => false,
+    }
+}
+
+// Refusals 1 and 2, in order; where there is none, the index is the table's.
+pub fn accept(table: &[i64], configuration: &[i64], index: &mut [usize; 1024]) -> Check
+    ensures { λ r. ⌜ AcceptContract (now (table .entry)) (now (configuration .entry)) (now (index .entry)) (now (index .exit)) r ⌝ }
+{
+    match table::index_table(table, index) {
+        Check::Good => term::check_configuration(configuration),
+        Check::Refused(r) => Check::Refused(r),
+    }
+}
+
+// The step by one given rule: it does not apply, or its successor is written, or that is too large. A number that names no rule does not apply.
+pub fn step_by_rule<'a>(
+    table: &'a [i64],
+    configuration: &'a [i64],
+    rule: usize,
+    out: &mut [i64],
+) -> StepAnswer
+    ensures { λ r. ⌜ StepByRuleContract (now (table .entry)) (now (configuration .entry)) rule (now (out .entry)) (now (out .exit)) r ⌝ }
+{
+    let mut index = [0usize; 1024];
+    match accept(table, configuration, &mut index) {
+        Check::Good => apply_rule(table, &index, configuration, rule, out),
+        Check::Refused(r) => StepAnswer::Refused(r),
+    }
+}
+
+// The step: the earliest rule that applies writes its successor, if that is within the limit.
+pub fn step<'a>(table: &'a [i64], configuration: &'a [i64], out: &mut [i64]) -> StepAnswer
+    ensures { λ r. ⌜ StepContract (now (table .entry)) (now (configuration .entry)) (now (out .entry)) (now (out .exit)) r ⌝ }
+{
+    let mut index = [0usize; 1024];
+    match accept(table, configuration, &mut index) {
+        Check::Good => apply_earliest(table, &index, configuration, out),
+        Check::Refused(r) => StepAnswer::Refused(r),
+    }
+}
+
+// How many rules a checked table has, a rule's action, and the rule at a position of the order in which rules are tried.
+pub fn rule_count(table: &[i64], index: &[usize; 1024]) -> usize
+    requires { ⌜ Indexed (now table) (now index) ⌝ }
+    ensures { λ r. ⌜ RuleCountIs (now (table .entry)) r ⌝ }
+{
+    table::rule_count(table, index)
+}
+
+pub fn action(table: &[i64], index: &[usize; 1024], rule: usize) -> u16
+    requires { ⌜ Indexed (now table) (now index) ⌝ }
+    ensures { λ r. ⌜ ActionIs (now (table .entry)) rule r ⌝ }
+{
+    table::action(table, index, rule)
+}
+
+pub fn ordered(table: &[i64], index: &[usize; 1024], position: usize) -> usize
+    requires { ⌜ Indexed (now table) (now index) ⌝ }
+    ensures { λ r. ⌜ OrderedIs (now (table .entry)) position r ⌝ }
+{
+    table::ordered(table, index, position)
+}

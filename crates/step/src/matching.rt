@@ -1,0 +1,103 @@
+// Matching a left against a configuration, in one walk over both.
+ghost use mathlib.Core.Path.{_≡_};
+ghost use Prim.Native.Nat.{_<_};
+ghost use lib.ListN.{length};
+ghost use Rattle.minuska.specs.Computed.Place.{Accepted};
+ghost use Rattle.step.specs.Matching.{LeftIn, MatchContract, TurnFrom, Turned, Put};
+
+// What a node of a left finds at the configuration's term that the walk has come to.
+pub enum Turn {
+    // the same node
+    Same,
+    // a variable that has no part yet: its number, and the end of the term, which is its part
+    Bind(usize, usize),
+    // a variable whose part has the term's words: the end of the term
+    Again(usize),
+    // anything else: the left does not match
+    Misfit,
+}
+
+// One turn of the walk: the left's node at word i of the table against the configuration's term at word j. A variable with end 0 has no part.
+fn turn_at(
+    table: &[i64],
+    i: usize,
+    configuration: &[i64],
+    j: usize,
+    starts: &[usize; 16],
+    ends: &[usize; 16],
+) -> Turn
+    requires { ⌜ TurnFrom (now table) i (now configuration) j (now starts) (now ends) ⌝ }
+    ensures { λ r. ⌜ Turned (now (table .entry)) i (now (configuration .entry)) j (now (starts .entry)) (now (ends .entry)) r ⌝ }
+{
+    let t = term::word(table, i);
+    let d = term::word(table, i + 1);
+    if t != 3 {
+        if t != term::word(configuration, j) {
+            return Turn::Misfit;
+        }
+        if d != term::word(configuration, j + 1) {
+            return Turn::Misfit;
+        }
+        return Turn::Same;
+    }
+    let v = d as usize;
+    let to = ends[v];
+    if to == 0 {
+        let end = term::ground_end(configuration, j);
+        return Turn::Bind(v, end);
+    }
+    let from = starts[v];
+    let end = j + (to - from);
+    if configuration.len() < end {
+        return Turn::Misfit;
+    }
+    let same = term::same_words(&configuration[from..to], &configuration[j..end]);
+    if same { Turn::Again(end) } else { Turn::Misfit }
+}
+
+// One number of an array.
+fn put(s: &mut [usize], v: usize, x: usize)
+    requires { ⌜ v < length (now s) ⌝ }
+    ensures { λ _. ⌜ Put (now (s .entry)) (now (s .exit)) v x ⌝ }
+{
+    s[v] = x;
+}
+
+// Matches the left that stands in table[at..end] against the whole configuration; the parts of its variables go to starts and ends.
+pub fn match_left(
+    table: &[i64],
+    at: usize,
+    end: usize,
+    configuration: &[i64],
+    starts: &mut [usize; 16],
+    ends: &mut [usize; 16],
+) -> bool
+    requires { ⌜ LeftIn (now table) at end ⌝ }
+    requires { ⌜ Accepted (now configuration) ⌝ }
+    ensures { λ r. ⌜ MatchContract (now (table .entry)) at end (now (configuration .entry)) (now (starts .entry)) (now (starts .exit)) (now (ends .exit)) r ⌝ }
+{
+    *ends = [0usize; 16];
+    let mut i = at;
+    let mut j: usize = 0;
+    while i < end {
+        let turn = turn_at(table, i, configuration, j, starts, ends);
+        i += 2;
+        match turn {
+            Turn::Same => {
+                j += 2;
+            }
+            Turn::Bind(v, e) => {
+                put(starts, v, j);
+                put(ends, v, e);
+                j = e;
+            }
+            Turn::Again(e) => {
+                j = e;
+            }
+            Turn::Misfit => {
+                return false;
+            }
+        }
+    }
+    true
+}

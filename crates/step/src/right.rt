@@ -1,0 +1,88 @@
+// The words of a right under a match, item by item in preorder.
+use value::Evaluated;
+use value::Value;
+ghost use Prim.Native.Nat.{_<_};
+ghost use lib.ListN.{length};
+ghost use Rattle.step.specs.Right.{SomeRest, ItemIs, MeasureRightIs, FittingRest, WriteRightIs};
+
+// How many words a successor has, or that there is no room for them.
+pub enum Fit {
+    Words(usize),
+    TooLarge,
+}
+
+// One item: a variable's part or a call's value; else a node's two words as they stand.
+pub fn item(
+    table: &[i64],
+    configuration: &[i64],
+    at: usize,
+    end: usize,
+    starts: &[usize; 16],
+    ends: &[usize; 16],
+) -> Evaluated
+    requires { ⌜ SomeRest (now table) (now configuration) (now starts) (now ends) at end × (at < end) ⌝ }
+    ensures { λ r. ⌜ ItemIs (now (table .entry)) (now (configuration .entry)) (now (starts .entry)) (now (ends .entry)) at end r ⌝ }
+{
+    let tag = term::word(table, at);
+    if tag == 3 {
+        return value::evaluate(table, configuration, at, starts, ends);
+    }
+    if tag == 4 {
+        return value::evaluate(table, configuration, at, starts, ends);
+    }
+    Evaluated {
+        value: Value::Table(at, at + 2),
+        next: at + 2,
+    }
+}
+
+// How many words the items from a place up to another have, if there is room for them.
+pub fn measure_right(
+    table: &[i64],
+    configuration: &[i64],
+    at: usize,
+    end: usize,
+    starts: &[usize; 16],
+    ends: &[usize; 16],
+    room: usize,
+) -> Fit
+    requires { ⌜ SomeRest (now table) (now configuration) (now starts) (now ends) at end ⌝ }
+    ensures { λ r. ⌜ MeasureRightIs (now (table .entry)) (now (configuration .entry)) (now (starts .entry)) (now (ends .entry)) at end room r ⌝ }
+{
+    let mut i = at;
+    let mut left = room;
+    while i < end {
+        let x = item(table, configuration, i, end, starts, ends);
+        let v = x.value;
+        let n = value::size(v);
+        if left < n {
+            return Fit::TooLarge;
+        }
+        left -= n;
+        i = x.next;
+    }
+    Fit::Words(room - left)
+}
+
+// Writes the items' words from the start of out.
+pub fn write_right<'a>(
+    table: &'a [i64],
+    configuration: &'a [i64],
+    at: usize,
+    end: usize,
+    starts: &[usize; 16],
+    ends: &[usize; 16],
+    out: &mut [i64],
+)
+    requires { ⌜ FittingRest (now table) (now configuration) (now starts) (now ends) at end (length (now out)) ⌝ }
+    ensures { λ _. ⌜ WriteRightIs (now (table .entry)) (now (configuration .entry)) (now (starts .entry)) (now (ends .entry)) at end (now (out .entry)) (now (out .exit)) ⌝ }
+{
+    let mut i = at;
+    let mut o: usize = 0;
+    while i < end {
+        let x = item(table, configuration, i, end, starts, ends);
+        let v = x.value;
+        o = value::put(out, o, table, configuration, v);
+        i = x.next;
+    }
+}

@@ -1,0 +1,86 @@
+// One rule at a configuration, over checked words and the table's index: its left, its conditions, the words of its right.
+use crate::right::Fit;
+ghost use mathlib.Core.Path.{_≡_};
+ghost use Prim.Native.Nat.{_+_, _*_, _<_};
+ghost use lib.ListN.{length, getD};
+ghost use Rattle.minuska.specs.Computed.Place.{Indexed, Accepted};
+ghost use Rattle.step.specs.Apply.{Names, SomeMatched, MatchIs, HoldIs, MeasureIs, WordsFit, WriteIs};
+
+// A number of the index: where part 0, 1, 2 or 3 of a rule starts (the rule, its right, its conditions, what follows it).
+pub fn place(index: &[usize; 1024], rule: usize, part: usize) -> usize
+    requires { ⌜ 4 * rule + part < 1024 ⌝ }
+    ensures { λ r. ⌜ r ≡ getD (now (index .entry)) (4 * rule + part) 0 ⌝ }
+{
+    index[4 * rule + part]
+}
+
+// Whether the rule's left matches the configuration; if so, the places of its variables' terms stand in starts and ends.
+pub fn match_rule(
+    table: &[i64],
+    index: &[usize; 1024],
+    rule: usize,
+    configuration: &[i64],
+    starts: &mut [usize; 16],
+    ends: &mut [usize; 16],
+) -> bool
+    requires { ⌜ Indexed (now table) (now index) × Accepted (now configuration) × Names (now table) rule ⌝ }
+    ensures { λ r. ⌜ MatchIs (now (table .entry)) (now (configuration .entry)) rule (now (starts .exit)) (now (ends .exit)) r ⌝ }
+{
+    let at = place(index, rule, 0);
+    let end = place(index, rule, 1);
+    crate::matching::match_left(table, at + 2, end, configuration, starts, ends)
+}
+
+// Whether the rule's conditions hold.
+pub fn conditions_hold<'a>(
+    table: &'a [i64],
+    index: &[usize; 1024],
+    rule: usize,
+    configuration: &'a [i64],
+    starts: &[usize; 16],
+    ends: &[usize; 16],
+) -> bool
+    requires { ⌜ Indexed (now table) (now index) × SomeMatched (now table) (now configuration) rule (now starts) (now ends) ⌝ }
+    ensures { λ r. ⌜ HoldIs (now (table .entry)) (now (configuration .entry)) rule (now (starts .entry)) (now (ends .entry)) r ⌝ }
+{
+    let at = place(index, rule, 2);
+    let end = place(index, rule, 3);
+    crate::conditions::hold_all(table, configuration, at, end, starts, ends)
+}
+
+// How many words the rule's successor has, if there is room for them.
+pub fn measure(
+    table: &[i64],
+    index: &[usize; 1024],
+    rule: usize,
+    configuration: &[i64],
+    starts: &[usize; 16],
+    ends: &[usize; 16],
+    room: usize,
+) -> Fit
+    requires { ⌜ Indexed (now table) (now index) × SomeMatched (now table) (now configuration) rule (now starts) (now ends) ⌝ }
+    ensures { λ r. ⌜ MeasureIs (now (table .entry)) (now (configuration .entry)) rule (now (starts .entry)) (now (ends .entry)) room r ⌝ }
+{
+    let at = place(index, rule, 1);
+    let end = place(index, rule, 2);
+    crate::right::measure_right(table, configuration, at, end, starts, ends, room)
+}
+
+// Writes the words of the rule's successor from the start of out.
+pub fn write_successor<'a>(
+    table: &'a [i64],
+    index: &[usize; 1024],
+    rule: usize,
+    configuration: &'a [i64],
+    starts: &[usize; 16],
+    ends: &[usize; 16],
+    out: &mut [i64],
+)
+    requires { ⌜ Indexed (now table) (now index) × SomeMatched (now table) (now configuration) rule (now starts) (now ends) ⌝ }
+    requires { ⌜ WordsFit (now table) (now configuration) rule (now starts) (now ends) (length (now out)) ⌝ }
+    ensures { λ _. ⌜ WriteIs (now (table .entry)) (now (configuration .entry)) rule (now (starts .entry)) (now (ends .entry)) (now (out .entry)) (now (out .exit)) ⌝ }
+{
+    let at = place(index, rule, 1);
+    let end = place(index, rule, 2);
+    crate::right::write_right(table, configuration, at, end, starts, ends, out)
+}

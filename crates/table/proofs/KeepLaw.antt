@@ -1,0 +1,61 @@
+-- A walk below no left leaves the flags as they are.
+use mathlib.Core.Path.{_≡_, refl, sym, _∙_, ap, subst⁻¹}
+use mathlib.Core.Bool.{Bool}
+use mathlib.Core.Logic.{inl, inr}
+use mathlib.Core.List.{List, [], _∷_, _++_}
+use Prim.Native.Nat.{ℕ, zero, suc, _+_}
+use lib.IntN.{ℤ}
+use lib.ListN.{drop, replicate}
+use Rattle.table.specs.declared.node.Level.{Level}
+use Rattle.table.specs.declared.node.Level.the-variants.{Left, Right, Expression, Ground}
+use Rattle.table.specs.declared.node.Below.{Below}
+use Rattle.table.specs.declared.node.Below.the-variants as B
+use Rattle.table.specs.declared.node.Node.{Node}
+use Rattle.table.specs.declared.node.Node.the-variants as N
+use Rattle.table.specs.Node.{nodeOf, flagNode, admitted, seenAfter}
+use Rattle.table.specs.Walk.{onward, walk, partWalk, partSeen}
+use Rattle.table.proofs.PendingLaw.{Deeper}
+use Rattle.table.proofs.TurnLaw.{admitted-deeper}
+use Rattle.table.proofs.TestLaw.{Inner}
+
+abbrev Inners : List Level → Type 0
+Inners [] = Unit {0}
+Inners (l ∷ ls) = Inner l × Inners ls
+
+more-inner : (k : ℕ) (b : Level) (ls : List Level) → Inner b → Inners ls → Inners (replicate k b ++ ls)
+more-inner zero b ls i is = is
+more-inner (suc k) b ls i is = (i, more-inner k b ls i is)
+
+deeper-inner : (l b : Level) → Inner l → Deeper l b → Inner b
+deeper-inner l b i (inl e) = subst⁻¹ Inner e i
+deeper-inner l b i (inr (inl e)) = subst⁻¹ Inner e tt
+deeper-inner l b i (inr (inr e)) = subst⁻¹ Inner (e .0) tt
+
+node-keeps : (l : Level) → Inner l → (t d : ℤ) (seen : List Bool) → seenAfter l t d seen ≡ seen
+unfolding seenAfter
+node-keeps l i t d seen = at l i (nodeOf t d)
+  where
+    at : (l : Level) → Inner l → (n : Node) → flagNode l seen n ≡ seen
+    at l i (N.Plain k) = refl
+    at l i (N.Call k) = refl
+    at Left i (N.Variable v) = absurd i
+    at Right i (N.Variable v) = refl
+    at Expression i (N.Variable v) = refl
+    at Ground i (N.Variable v) = refl
+    at l i N.Bad = refl
+
+walk-keeps : (ws : List ℤ) (at : ℕ) (ls : List Level) (seen : List Bool) → Inners ls → walk ws at ls seen .seen ≡ seen
+walk-keeps [] at [] seen is = refl
+walk-keeps [] at (l ∷ ls) seen is = refl
+walk-keeps (t ∷ []) at [] seen is = refl
+walk-keeps (t ∷ []) at (l ∷ ls) seen is = refl
+walk-keeps (t ∷ d ∷ ws) at [] seen is = refl
+walk-keeps (t ∷ d ∷ ws) at (l ∷ ls) seen is = pick (admitted l t d seen) refl (λ ms s j. walk-keeps ws (at + 2) ms s j)
+  where
+    pick : (b : Below) → admitted l t d seen ≡ b → ((ms : List Level) (s : List Bool) → Inners ms → walk ws (at + 2) ms s .seen ≡ s) → onward b ls (seenAfter l t d seen) (λ ms s. walk ws (at + 2) ms s) .seen ≡ seen
+    pick B.Bad q h = node-keeps l (is .0) t d seen
+    pick (B.Are b k) q h = h (replicate k b ++ ls) (seenAfter l t d seen) (more-inner k b ls (deeper-inner l b (is .0) (admitted-deeper l t d seen b k q)) (is .1)) ∙ node-keeps l (is .0) t d seen
+
+pub part-keeps : (ws : List ℤ) (at : ℕ) (l : Level) (seen : List Bool) → Inner l → partSeen ws at l seen ≡ seen
+unfolding partWalk
+part-keeps ws at l seen i = walk-keeps (drop at ws) at (l ∷ []) seen (i, tt)

@@ -1,0 +1,14 @@
+pub mod OptionLaw
+pub mod NumberLaw
+pub mod NodeLaw
+pub mod PendingLaw
+pub mod TurnLaw
+pub mod ScanLaw
+pub mod PartLaw
+pub mod TestLaw
+pub mod KeepLaw
+pub mod SideLaw
+pub mod ConditionLaw
+pub mod RuleLaw
+pub mod FillLaw
+pub mod IndexLaw

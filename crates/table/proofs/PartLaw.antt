@@ -1,0 +1,146 @@
+-- A term walked is a term read: `part_end` finds the place behind a term exactly if the words there are one that passes.
+use mathlib.Core.Path.{_≡_, refl, sym, _∙_, ap, subst}
+use mathlib.Core.Bool.{Bool, true, false}
+use mathlib.Core.Option.{Option, none, some, Option·none-ne-some, Option·some-injective}
+use mathlib.Core.List.{List, [], _∷_, _++_}
+use Prim.Native.Nat.{ℕ, zero, suc, _+_, _-_, _≤_}
+use native.Mathlib.Omega.{arith}
+use lib.Dec.{T, leb, leb→le, le→leb}
+use lib.IntN.{ℤ}
+use lib.ListN.{length, drop, replicate, length-append, length-replicate}
+use lib.Seq.{drop-append-seam, drop-drop}
+use Rattle.minuska.specs.Basics.{_>>=_, provided}
+use Rattle.minuska.specs.Term.{Label, Term, single, nodes, nodeCount}
+use Rattle.minuska.specs.Word.{ok, encode}
+use Rattle.minuska.specs.Computed.Read.{readNode, spanTerms, readTerm}
+use Rattle.minuska.proofs.Tests.{came, provided-some, provided-true}
+use Rattle.minuska.proofs.WordLaw.{encode-length}
+use Rattle.minuska.proofs.SpanLaw.{read-term-iff}
+use Rattle.minuska.proofs.ReadLaw.{span-reads}
+use Rattle.term.specs.declared.Place.the-variants as P
+use Rattle.table.specs.declared.node.Level.{Level}
+use Rattle.table.specs.declared.node.Below.{Below}
+use Rattle.table.specs.declared.node.Below.the-variants as B
+use Rattle.table.specs.Node.{admitted, seenAfter}
+use Rattle.table.specs.Walk.{Walked, onward, walk, within, placed, partWalk, partEnd, partSeen}
+use Rattle.table.proofs.NodeLaw.{admitted-read}
+use Rattle.table.proofs.ScanLaw.{scan, found, walk-encode}
+
+-- ---- what is walked spans terms
+walk-spans : (ws : List ℤ) (at : ℕ) (ls : List Level) (seen : List Bool) (e : ℕ) → walk ws at ls seen .end ≡ some e → (p : List ℤ × List ℤ) × (spanTerms ws (length ls) ≡ some p)
+walk-spans [] at [] seen e h = (([], []), refl)
+walk-spans [] at (l ∷ ls) seen e h = absurd (Option·none-ne-some e h)
+walk-spans (t ∷ []) at [] seen e h = (([], t ∷ []), refl)
+walk-spans (t ∷ []) at (l ∷ ls) seen e h = absurd (Option·none-ne-some e h)
+walk-spans (t ∷ d ∷ ws) at [] seen e h = (([], t ∷ d ∷ ws), refl)
+walk-spans (t ∷ d ∷ ws) at (l ∷ ls) seen e h = pick (admitted l t d seen) refl h (λ ms s. walk-spans ws (at + 2) ms s e)
+  where
+    pick : (b : Below) → admitted l t d seen ≡ b → onward b ls (seenAfter l t d seen) (λ ms s. walk ws (at + 2) ms s) .end ≡ some e →
+        ((ms : List Level) (s : List Bool) → walk ws (at + 2) ms s .end ≡ some e → (p : List ℤ × List ℤ) × (spanTerms ws (length ms) ≡ some p)) →
+        (p : List ℤ × List ℤ) × (spanTerms (t ∷ d ∷ ws) (suc (length ls)) ≡ some p)
+    pick B.Bad q g i = absurd (Option·none-ne-some e g)
+    pick (B.Are b k) q g i =
+        let r = admitted-read l seen b k t d q in
+        let j = i (replicate k b ++ ls) (seenAfter l t d seen) g in
+        let n : length (replicate k b ++ ls) ≡ k + length ls = length-append (replicate k b) ls ∙ ap (λ (m : ℕ). m + length ls) (length-replicate k b) in (
+          (t ∷ d ∷ (j .0 .0), j .0 .1),
+          ap (λ (o : Option (Label × ℕ)). o >>= λ n. spanTerms ws (n .1 + length ls) >>= λ p. some (t ∷ d ∷ (p .0), p .1)) (r .read) ∙
+              ap (λ (o : Option (List ℤ × List ℤ)). o >>= λ p. some (t ∷ d ∷ (p .0), p .1)) (ap (spanTerms ws) (sym n) ∙ j .1),
+        )
+
+-- ---- one term
+abbrev ending : ℕ → List Bool → Option (ℕ × List Bool)
+ending n s = some (n, s)
+
+abbrev beside : List Bool → ℕ → Option (ℕ × List Bool)
+beside s n = some (n, s)
+
+walk-nothing : (ws : List ℤ) (at : ℕ) (seen : List Bool) → found (walk ws at [] seen) ≡ some (at, seen)
+walk-nothing [] at seen = refl
+walk-nothing (t ∷ []) at seen = refl
+walk-nothing (t ∷ d ∷ ws) at seen = refl
+
+module _ (xs : List ℤ) (at : ℕ) (l : Level) (seen : List Bool) where
+  pub found-none : readTerm xs ≡ none → walk xs at (l ∷ []) seen .end ≡ none
+  found-none q = pick (walk xs at (l ∷ []) seen .end) refl
+    where
+      pick : (o : Option ℕ) → walk xs at (l ∷ []) seen .end ≡ o → o ≡ none
+      pick none e = refl
+      pick (some n) e =
+          let p = walk-spans xs at (l ∷ []) seen n e in
+          let t = span-reads xs (p .0) (p .1) in
+          absurd (Option·none-ne-some (t .0, p .0 .1) (sym q ∙ t .1))
+
+  pub found-some : (p : Term × List ℤ) → readTerm xs ≡ some p → found (walk xs at (l ∷ []) seen) ≡ (scan l (single (p .0)) seen >>= ending (at + length (encode (single (p .0)))))
+  found-some p q =
+      let i = read-term-iff xs (p .0) (p .1) .0 q in
+      let t = single (p .0) in
+      ap (λ (v : List ℤ). found (walk v at (l ∷ []) seen)) (sym (i .1)) ∙
+      (walk-encode t (i .0) l [] at (p .1) seen ∙ after (scan l t seen))
+    where
+      after : (o : Option (List Bool)) → (o >>= λ s. found (walk (p .1) (at + length (encode (single (p .0)))) [] s)) ≡ (o >>= ending (at + length (encode (single (p .0)))))
+      after none = refl
+      after (some s) = walk-nothing (p .1) (at + length (encode (single (p .0)))) s
+
+-- ---- what `part_end` has found
+pub record Part (ws : List ℤ) (at : ℕ) (l : Level) (seen seen′ : List Bool) (e : ℕ) : Type 0 where
+  pub term : Term
+  pub read : readTerm (drop at ws) ≡ some (term, drop e ws)
+  pub ends : e ≡ at + length (encode (single term))
+  pub inRange : T (ok (single term))
+  pub small : nodeCount term ≤ 512
+  pub scanned : scan l (single term) seen ≡ some seen′
+
+twice : (t : Term) → length (encode (single t)) ≡ nodeCount t + nodeCount t
+twice t = let e = encode-length (single t) in omega arith
+
+-- an answer at a place, and nowhere
+pub placed-at : (e : ℕ) (o : Option ℕ) → P.At e ≡ placed o → o ≡ some e
+placed-at e none h = absurd (let z : _≡_ {A = ℕ} 0 1 = cc in let f : ⊥ = omega arith in f)
+placed-at e (some n) h = let p : n ≡ e = cc in ap {B = Option ℕ} some p
+
+pub placed-nowhere : (o : Option ℕ) → P.Nowhere ≡ placed o → o ≡ none
+placed-nowhere none h = refl
+placed-nowhere (some n) h = absurd (let z : _≡_ {A = ℕ} 0 1 = cc in let f : ⊥ = omega arith in f)
+
+within-some : (at e : ℕ) (o : Option ℕ) → within at o ≡ some e → (o ≡ some e) × (e - at ≤ 1024)
+within-some at e o h =
+    let c = came o (λ n. provided (leb (n - at) 1024) n) e h in
+    let w = provided-some (leb (c .0 - at) 1024) (c .0) e (c .2) in
+    (c .1 ∙ ap {B = Option ℕ} some (w .1), subst (λ (n : ℕ). n - at ≤ 1024) (w .1) (leb→le (c .0 - at) 1024 (w .0)))
+
+module _ (ws : List ℤ) (at : ℕ) (l : Level) (seen : List Bool) where
+  pub part-found : (e : ℕ) → partEnd ws at l seen ≡ some e → Part ws at l seen (partSeen ws at l seen) e
+  unfolding partWalk
+  part-found e c = pick (readTerm (drop at ws)) refl (within-some at e (w .end) c)
+    where
+      w : Walked
+      w = walk (drop at ws) at (l ∷ []) seen
+
+      build : (t : Term) (rest : List ℤ) (s : List Bool) → readTerm (drop at ws) ≡ some (t, rest) → e - at ≤ 1024 → at + length (encode (single t)) ≡ e → scan l (single t) seen ≡ some s → s ≡ w .seen → Part ws at l seen (w .seen) e
+      build t rest s q m n k h =
+          let i = read-term-iff (drop at ws) t rest .0 q in
+          let d : rest ≡ drop e ws = sym (drop-append-seam (encode (single t)) rest) ∙ (ap (drop (length (encode (single t)))) (i .1) ∙ (drop-drop (length (encode (single t))) at ws ∙ ap (λ (x : ℕ). drop x ws) n)) in
+          let z = twice t in
+          record { term = t; read = q ∙ ap (λ (x : List ℤ). some (t, x)) d; ends = sym n; inRange = i .0; small = omega arith; scanned = k ∙ ap {B = Option (List Bool)} some h }
+
+      pick : (o : Option (Term × List ℤ)) → readTerm (drop at ws) ≡ o → (w .end ≡ some e) × (e - at ≤ 1024) → Part ws at l seen (w .seen) e
+      pick none q h = absurd (Option·none-ne-some e (sym (found-none (drop at ws) at l seen q) ∙ h .0))
+      pick (some p) q h =
+          let n = at + length (encode (single (p .0))) in
+          let f : (scan l (single (p .0)) seen >>= ending n) ≡ some (e, w .seen) = sym (found-some (drop at ws) at l seen p q) ∙ ap (λ (o : Option ℕ). o >>= beside (w .seen)) (h .0) in
+          let k = came (scan l (single (p .0)) seen) (ending n) (e, w .seen) f in
+          let g : Path (ℕ × List Bool) (n, k .0) (e, w .seen) = Option·some-injective (n, k .0) (e, w .seen) (k .2) in
+          build (p .0) (p .1) (k .0) q (h .1) (ap (λ (x : ℕ × List Bool). x .0) g) (k .1) (ap (λ (x : ℕ × List Bool). x .1) g)
+
+  pub part-missed : partEnd ws at l seen ≡ none → (p : Term × List ℤ) → readTerm (drop at ws) ≡ some p → nodeCount (p .0) ≤ 512 → (s : List Bool) → scan l (single (p .0)) seen ≡ some s → ⊥
+  unfolding partWalk
+  part-missed c p q h s e =
+      let n = at + length (encode (single (p .0))) in
+      let w = walk (drop at ws) at (l ∷ []) seen in
+      let f : found w ≡ some (n, s) = found-some (drop at ws) at l seen p q ∙ ap (λ (o : Option (List Bool)). o >>= ending n) e in
+      let k = came (w .end) (beside (w .seen)) (n, s) f in
+      let g : k .0 ≡ n = ap (λ (x : ℕ × List Bool). x .0) (Option·some-injective (k .0, w .seen) (n, s) (k .2)) in
+      let z = twice (p .0) in
+      let b : provided (leb (n - at) 1024) n ≡ some n = provided-true (leb (n - at) 1024) n (le→leb (n - at) 1024 (omega arith)) in
+      Option·none-ne-some n (sym c ∙ (ap (within at) (k .1 ∙ ap {B = Option ℕ} some g) ∙ b))

@@ -1,0 +1,40 @@
+-- What the table's check leaves in the index.
+use mathlib.Core.Path.{_≡_}
+use mathlib.Core.Bool.{Bool, true, false, cond}
+use mathlib.Core.Option.{Option, none, some}
+use mathlib.Core.List.{List, [], _∷_, _++_}
+use Prim.Native.Nat.{ℕ, zero, suc, _+_}
+use lib.IntN.{ℤ}
+use lib.Dec.{leb}
+use lib.ListN.{length}
+use Rattle.minuska.specs.Rule.{Rule, ruleWords}
+use Rattle.minuska.specs.declared.Check.{Check}
+use Rattle.minuska.specs.declared.Check.the-variants.{Good}
+use Rattle.minuska.specs.Slice.{write}
+use Rattle.minuska.specs.Computed.Read.{numberBelow, readRule}
+use Rattle.minuska.specs.Computed.Outcome.{tableCheck}
+use Rattle.minuska.specs.Computed.Place.{rulePlaces, Indexed}
+
+-- the places of the rules that words start with, at most k of them, up to the first that is not accepted
+abbrev pub placesThen : ℕ → Option (Rule × List ℤ) → (ℕ → List ℤ → List ℕ) → List ℕ
+placesThen at none go = []
+placesThen at (some p) go = rulePlaces at (p .0) ++ go (at + length (ruleWords (p .0))) (p .1)
+
+abbrev pub placesRead : ℕ → ℕ → List ℤ → List ℕ
+placesRead zero at ws = []
+placesRead (suc k) at ws = placesThen at (readRule ws) (λ i xs. placesRead k i xs)
+
+abbrev pub placesCounted : Option ℕ → List ℤ → List ℕ
+placesCounted none ws = []
+placesCounted (some k) ws = placesRead k 1 ws
+
+-- a table of too many words, or of a count out of range, has none
+unfoldable pub placesFound : List ℤ → List ℕ
+placesFound [] = []
+placesFound (n ∷ ws) = cond (leb (suc (length ws)) 65536) (placesCounted (numberBelow 257 n) ws) []
+
+-- The answer; the index afterwards, for every answer: the places of the rules that were accepted, the numbers behind them keep.
+pub record IndexTableContract (table : List ℤ) (index index′ : List ℕ) (r : Check) : Type 0 where
+  pub answer : r ≡ tableCheck table
+  pub leaves : index′ ≡ write (placesFound table) index
+  pub indexed : r ≡ Good → Indexed table index′

@@ -1,0 +1,5 @@
+pub mod Number
+pub mod Node
+pub mod Walk
+pub mod Rule
+pub mod Index

@@ -1,0 +1,37 @@
+-- One rule of a table: where its parts stand, if it is accepted.
+use mathlib.Core.Path.{_≡_}
+use mathlib.Core.Bool.{Bool}
+use mathlib.Core.Option.{Option, none, some}
+use mathlib.Core.List.{List, [], _∷_}
+use Prim.Native.Nat.{ℕ, zero, suc}
+use lib.IntN.{ℤ}
+use lib.ListN.{drop}
+use Rattle.minuska.specs.Basics.{_>>=_}
+use Rattle.minuska.specs.Rule.{Rule}
+use Rattle.minuska.specs.Computed.Read.{readRule}
+use Rattle.minuska.specs.Computed.Place.{rulePlaces}
+use Rattle.term.specs.declared.Place.{Place}
+use Rattle.table.specs.declared.node.Level.the-variants.{Expression}
+use Rattle.table.specs.declared.rule.Parts.{Parts}
+use Rattle.table.specs.declared.rule.Parts.the-variants as R
+use Rattle.table.specs.Walk.{placed, partEnd}
+
+-- the place behind some conditions: two expressions each
+abbrev pub conditionsEnd : ℕ → List ℤ → List Bool → ℕ → Option ℕ
+conditionsEnd zero ws seen at = some at
+conditionsEnd (suc k) ws seen at = partEnd ws at Expression seen >>= λ e. partEnd ws e Expression seen >>= λ e. conditionsEnd k ws seen e
+
+pub record ConditionsContract (ws : List ℤ) (at count : ℕ) (seen seen′ : List Bool) (r : Place) : Type 0 where
+  pub answer : r ≡ placed (conditionsEnd count ws seen at)
+  pub leaves : seen′ ≡ seen
+
+-- An accepted rule starts at a place, and its parts stand at these.
+pub record RuleAt (ws : List ℤ) (at right conditions end : ℕ) : Type 0 where
+  pub rule : Rule
+  pub read : readRule (drop at ws) ≡ some (rule, drop end ws)
+  pub places : rulePlaces at rule ≡ at ∷ right ∷ conditions ∷ end ∷ []
+
+-- What is found at a place, by the answer.
+abbrev pub RuleIs : List ℤ → ℕ → Parts → Type 0
+RuleIs ws at (R.At right conditions end) = RuleAt ws at right conditions end
+RuleIs ws at R.Nowhere = readRule (drop at ws) ≡ none

@@ -1,0 +1,92 @@
+-- The walk over a term's words: the levels of the nodes still to come, the first first.
+use mathlib.Core.Path.{_≡_}
+use mathlib.Core.Bool.{Bool, true, false, cond}
+use mathlib.Core.Option.{Option, none, some}
+use mathlib.Core.List.{List, [], _∷_, _++_}
+use Prim.Native.Nat.{ℕ, zero, suc, _+_, _-_}
+use lib.IntN.{ℤ}
+use lib.Dec.{leb}
+use lib.ListN.{drop, replicate}
+use Rattle.minuska.specs.Basics.{_>>=_, provided}
+use Rattle.term.specs.declared.Place.{Place}
+use Rattle.term.specs.declared.Place.the-variants as P
+use Rattle.table.specs.declared.node.Level.{Level}
+use Rattle.table.specs.declared.node.Level.the-variants.{Left, Right, Expression, Ground}
+use Rattle.table.specs.declared.node.Below.{Below}
+use Rattle.table.specs.declared.node.Below.the-variants as B
+use Rattle.table.specs.declared.walk.Pending.{Pending}
+use Rattle.table.specs.declared.walk.Next.{Next}
+use Rattle.table.specs.declared.walk.Next.the-variants as X
+use Rattle.table.specs.Node.{admitted, seenAfter}
+
+-- the place behind the last node, if all passed; the variables flagged
+pub record Walked : Type 0 where
+  pub end : Option ℕ
+  pub seen : List Bool
+
+abbrev pub onward : Below → List Level → List Bool → (List Level → List Bool → Walked) → Walked
+onward B.Bad ls seen go = record { end = none; seen = seen }
+onward (B.Are l k) ls seen go = go (replicate k l ++ ls) seen
+
+abbrev pub walk : List ℤ → ℕ → List Level → List Bool → Walked
+walk [] at [] seen = record { end = some at; seen = seen }
+walk [] at (l ∷ ls) seen = record { end = none; seen = seen }
+walk (t ∷ []) at [] seen = record { end = some at; seen = seen }
+walk (t ∷ []) at (l ∷ ls) seen = record { end = none; seen = seen }
+walk (t ∷ d ∷ ws) at [] seen = record { end = some at; seen = seen }
+walk (t ∷ d ∷ ws) at (l ∷ ls) seen = onward (admitted l t d seen) ls (seenAfter l t d seen) (λ ms s. walk ws (at + 2) ms s)
+
+-- "Each term or expression has at most 512 nodes."
+abbrev pub within : ℕ → Option ℕ → Option ℕ
+within at o = o >>= λ e. provided (leb (e - at) 1024) e
+
+abbrev pub placed : Option ℕ → Place
+placed none = P.Nowhere
+placed (some e) = P.At e
+
+unfoldable pub partWalk : List ℤ → ℕ → Level → List Bool → Walked
+partWalk ws at kind seen = walk (drop at ws) at (kind ∷ []) seen
+
+abbrev pub partEnd : List ℤ → ℕ → Level → List Bool → Option ℕ
+partEnd ws at kind seen = within at (partWalk ws at kind seen .end)
+
+abbrev pub partSeen : List ℤ → ℕ → Level → List Bool → List Bool
+partSeen ws at kind seen = partWalk ws at kind seen .seen
+
+pub record PartContract (ws : List ℤ) (at : ℕ) (kind : Level) (seen seen′ : List Bool) (r : Place) : Type 0 where
+  pub answer : r ≡ placed (partEnd ws at kind seen)
+  pub leaves : seen′ ≡ partSeen ws at kind seen
+
+-- The same levels, counted: ground nodes come first, then those of expressions, then the others.
+abbrev pub levels : Level → Pending → List Level
+levels kind p = replicate (p .ground) Ground ++ (replicate (p .inner) Expression ++ replicate (p .outer) kind)
+
+abbrev pub nextIn : Level → ℕ → ℕ → ℕ → Next
+nextIn kind (suc g) i o = X.At Ground
+nextIn kind zero (suc i) o = X.At Expression
+nextIn kind zero zero (suc o) = X.At kind
+nextIn kind zero zero zero = X.Done
+
+unfoldable pub nextOf : Level → Pending → Next
+nextOf kind p = nextIn kind (p .ground) (p .inner) (p .outer)
+
+abbrev pub counts : ℕ → ℕ → ℕ → Pending
+counts g i o = record { outer = o; inner = i; ground = g }
+
+abbrev pub popIn : ℕ → ℕ → ℕ → Pending
+popIn (suc g) i o = counts g i o
+popIn zero (suc i) o = counts zero i o
+popIn zero zero (suc o) = counts zero zero o
+popIn zero zero zero = counts zero zero zero
+
+unfoldable pub popped : Pending → Pending
+popped p = popIn (p .ground) (p .inner) (p .outer)
+
+unfoldable pub pushed : Pending → Level → ℕ → Pending
+pushed p Left k = counts (p .ground) (p .inner) (p .outer + k)
+pushed p Right k = counts (p .ground) (p .inner) (p .outer + k)
+pushed p Expression k = counts (p .ground) (p .inner + k) (p .outer)
+pushed p Ground k = counts (p .ground + k) (p .inner) (p .outer)
+
+abbrev pub pending : Pending → ℕ
+pending p = p .outer + p .inner + p .ground

@@ -1,0 +1,57 @@
+// The table's check, and the index: where the parts of each rule stand.
+mod fill;
+mod node;
+mod number;
+mod rule;
+mod walk;
+
+use crate::fill::fill;
+use crate::number::natural;
+use crate::number::word;
+use minuska::Check;
+ghost use Rattle.minuska.specs.Contract.{CheckTableContract};
+ghost use Rattle.minuska.specs.Computed.Place.{Indexed, RuleCountIs, ActionIs, OrderedIs};
+ghost use Rattle.table.specs.Index.{IndexTableContract};
+
+// Checks a table.
+pub fn check_table(table: &[i64]) -> Check
+    ensures { λ r. ⌜ CheckTableContract (now (table .entry)) r ⌝ }
+{
+    let mut index = [0usize; 1024];
+    index_table(table, &mut index)
+}
+
+// The same, and the index: four numbers a rule.
+pub fn index_table(table: &[i64], index: &mut [usize; 1024]) -> Check
+    ensures { λ r. ⌜ IndexTableContract (now (table .entry)) (now (index .entry)) (now (index .exit)) r ⌝ }
+{
+    fill(table, index)
+}
+
+// How many rules a checked table has.
+pub fn rule_count(table: &[i64], index: &[usize; 1024]) -> usize
+    requires { ⌜ Indexed (now table) (now index) ⌝ }
+    ensures { λ r. ⌜ RuleCountIs (now (table .entry)) r ⌝ }
+{
+    natural(word(table, 0))
+}
+
+// The action of a checked table's rule; 0 of a number that names none.
+pub fn action(table: &[i64], index: &[usize; 1024], rule: usize) -> u16
+    requires { ⌜ Indexed (now table) (now index) ⌝ }
+    ensures { λ r. ⌜ ActionIs (now (table .entry)) rule r ⌝ }
+{
+    if rule_count(table, index) <= rule {
+        return 0;
+    }
+    let at = index[4 * rule];
+    natural(word(table, at)) as u16
+}
+
+// The rule at a position of the order in which rules are tried.
+pub fn ordered(table: &[i64], index: &[usize; 1024], position: usize) -> usize
+    requires { ⌜ Indexed (now table) (now index) ⌝ }
+    ensures { λ r. ⌜ OrderedIs (now (table .entry)) position r ⌝ }
+{
+    position
+}

@@ -1,0 +1,63 @@
+// One rule of a table: where its parts stand, if it is accepted.
+use crate::node::Level;
+use crate::number::natural;
+use crate::number::word;
+use crate::walk::part_end;
+use term::Place;
+ghost use Rattle.table.specs.Rule.{ConditionsContract, RuleIs};
+
+// The starts of a rule's right and of its conditions, and its end.
+pub enum Parts {
+    At(usize, usize, usize),
+    Nowhere,
+}
+
+// The place behind the conditions that start at a place: two expressions each.
+fn conditions_end(table: &[i64], at: usize, count: usize, seen: &mut [bool; 16]) -> Place
+    ensures { λ r. ⌜ ConditionsContract (now (table .entry)) at count (now (seen .entry)) (now (seen .exit)) r ⌝ }
+{
+    let mut i = at;
+    let mut k = count;
+    while 0 < k {
+        let Place::At(second) = part_end(table, i, Level::Expression, seen) else {
+            return Place::Nowhere;
+        };
+        let Place::At(end) = part_end(table, second, Level::Expression, seen) else {
+            return Place::Nowhere;
+        };
+        i = end;
+        k -= 1;
+    }
+    Place::At(i)
+}
+
+// The parts of the rule that starts at a place.
+pub fn rule_parts(table: &[i64], at: usize) -> Parts
+    ensures { λ r. ⌜ RuleIs (now (table .entry)) at r ⌝ }
+{
+    let n = table.len();
+    if n < 2 {
+        return Parts::Nowhere;
+    }
+    if n - 2 < at {
+        return Parts::Nowhere;
+    }
+    if 65535 < natural(word(table, at)) {
+        return Parts::Nowhere;
+    }
+    let count = natural(word(table, at + 1));
+    if 8 < count {
+        return Parts::Nowhere;
+    }
+    let mut seen = [false; 16];
+    let Place::At(right) = part_end(table, at + 2, Level::Left, &mut seen) else {
+        return Parts::Nowhere;
+    };
+    let Place::At(conditions) = part_end(table, right, Level::Right, &mut seen) else {
+        return Parts::Nowhere;
+    };
+    let Place::At(end) = conditions_end(table, conditions, count, &mut seen) else {
+        return Parts::Nowhere;
+    };
+    Parts::At(right, conditions, end)
+}

@@ -1,0 +1,7 @@
+pub mod SignedLaw
+pub mod TermEndLaw
+pub mod NodeLaw
+pub mod RoleLaw
+pub mod DatumLaw
+pub mod ExtentLaw
+pub mod CheckLaw

@@ -1,0 +1,51 @@
+-- Words as the code sees them: stored as bits, compared, and cast to `usize`. And a test that decides a fact.
+use mathlib.Core.Path.{_≡_, refl, sym, _∙_, ap, ap₂, subst⁻¹}
+use mathlib.Core.Bool.{Bool, true, false, true≢false}
+use Prim.Native.Nat.{ℕ, _≤_}
+use native.Mathlib.Nat.{lt-of-le-of-lt}
+use lib.Dec.{T, lit<}
+use lib.IntN.{ℤ, pos, negsuc, natAbs}
+use lib.Signed.{ltZ, nonNeg, natAbs-le}
+use mir.Syntax.{w64}
+use mir.Val.{Fits, SFits, ofZ, toZ}
+use mir.ValLaws.{toZ-ofZ}
+use borrow.Author.Tests.{ltb-false}
+use Rattle.minuska.specs.Computed.Place.{Decides}
+
+-- a word that is not below a bound is a number, and its cast gives that number
+pub record Natural (z : ℤ) (bound : ℕ) : Type 0 where
+  pub number : ℕ
+  pub is : pos number ≡ z
+  pub low : bound ≤ number
+  pub cast : T (nonNeg (toZ w64 (ofZ w64 z))) × Fits w64 (natAbs (toZ w64 (ofZ w64 z)))
+  pub gives : natAbs (toZ w64 (ofZ w64 z)) ≡ number
+
+pub natural : (z : ℤ) (bound : ℕ) → SFits w64 z → ltZ (toZ w64 (ofZ w64 z)) (pos bound) ≡ false → Natural z bound
+natural (pos n) bound f h =
+    let e = toZ-ofZ w64 (pos n) f in
+    record {
+      number = n;
+      is = refl;
+      low = ltb-false n bound (rw e at h);
+      cast = (subst⁻¹ (λ (x : ℤ). T (nonNeg x)) e tt, subst⁻¹ (λ (x : ℤ). Fits w64 (natAbs x)) e (record { fits = lt-of-le-of-lt (natAbs-le (pos n) (f .sfits)) (lit< tt) }));
+      gives = ap natAbs e;
+    }
+natural (negsuc n) bound f h = absurd (true≢false (rw (toZ-ofZ w64 (negsuc n) f) at h))
+
+-- the order of two words
+pub order : (a b : ℤ) (r : Bool) → SFits w64 a → SFits w64 b → ltZ (toZ w64 (ofZ w64 a)) (toZ w64 (ofZ w64 b)) ≡ r → ltZ a b ≡ r
+order a b r f g e = sym (ap₂ ltZ (toZ-ofZ w64 a f) (toZ-ofZ w64 b g)) ∙ e
+
+-- two words with the same bits are equal
+pub same-bits : (a b : ℤ) → SFits w64 a → SFits w64 b → ofZ w64 a ≡ ofZ w64 b → a ≡ b
+same-bits a b f g e = sym (toZ-ofZ w64 a f) ∙ (ap (toZ w64) e ∙ toZ-ofZ w64 b g)
+
+-- a word with the bits of a number
+pub with-bits : (z : ℤ) (n : ℕ) → SFits w64 z → ofZ w64 z ≡ n → z ≡ toZ w64 n
+with-bits z n f e = sym (toZ-ofZ w64 z f) ∙ ap (toZ w64) e
+
+pub decided : {P : Type 0} → P → Decides true P
+decided p = record { yes = λ e. p; no = λ e q. true≢false e }
+
+pub denied : {P : Type 0} → (P → ⊥) → Decides false P
+denied n = record { yes = λ e. absurd (true≢false (sym e)); no = λ e q. n q }

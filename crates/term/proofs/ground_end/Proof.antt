@@ -1,0 +1,106 @@
+-- `ground_end` meets its contract: the terms left to read end where the ground term that stands at the start ends.
+use mathlib.Core.Path.{_≡_, sym, _∙_, ap}
+use mathlib.Core.Bool.{true}
+use mathlib.Core.List.{List}
+use Prim.Native.Nat.{ℕ, _+_, _-_}
+use native.Mathlib.Omega.{arith}
+use borrow.Author.Needs.{needs}
+use lib.Dec.{T}
+use lib.IntN.{ℤ, pos}
+use lib.ListN.{length, drop, getD}
+use mir.Syntax.{w64}
+use mir.Val.{SFits}
+use mir.ValLaws.{toZ-ofZ}
+use Rattle.minuska.specs.Computed.Place.{Stands}
+use Rattle.minuska.specs.Term.{Term, single, isGround}
+use Rattle.minuska.specs.Word.{encode, ok}
+use Rattle.term.specs.TermEnd.{groundLabel, childrenByTag, extent, placeOf, termEndIf}
+use Rattle.term.specs.declared.Place.the-variants.{At}
+use Rattle.term.proofs.NodeLaw.{by-tag, children-node}
+use Rattle.term.proofs.TermEndLaw.{Turn, place-done, place-turn, term-end-if-is}
+use Rattle.term.proofs.ExtentLaw.{stands-ends}
+use Rattle.term.proofs.ground_end.Statement.{statement}
+use Rattle.term.proofs.ground_end.Tie as tie
+
+abbrev Inv-loop : tie.InvT-loop
+Inv-loop s at i₀ rest₀ i rest = termEndIf true s at ≡ placeOf i (extent groundLabel (drop i s) rest)
+
+abbrev μ-loop : tie.MeasureT-loop
+μ-loop s at i₀ rest₀ i rest = length s - i
+
+-- the answer, by any ground term that stands at the start
+ends-at : (s : List ℤ) (at : ℕ) (t : Term) → T (ok (single t)) → T (isGround (single t)) → Stands s at (encode (single t)) → termEndIf true s at ≡ At (at + length (encode (single t)))
+ends-at s at t x g h = term-end-if-is true s at ∙ stands-ends groundLabel s at t x g h
+
+-- the turn at the node that stands at i, by the term that is required
+turn : (c : tie.In-loop Inv-loop μ-loop) → Turn groundLabel (c .before .before .args .s .now) (c .before .loop .i) (c .before .loop .rest) (c .before .before .args .at + length (encode (single (c .before .before .pre .term))))
+turn c =
+    let s = c .before .before .args .s .now in
+    let at = c .before .before .args .at in
+    let g = c .before .before .pre in
+    let l = c .before .loop in
+    place-turn groundLabel s (l .i) (l .rest) (at + length (encode (single (g .term)))) (c .loop-test .taken)
+    (sym (l .inv) ∙ ends-at s at (g .term) (g .good) (g .ground) (g .stands))
+
+-- the count that the code read is the node's
+counted : (c : tie.After-children-by-tag Inv-loop μ-loop) → turn (c .before .before) .count ≡ c .children-by-tag .result
+counted c =
+    let s = c .before .before .before .before .args .s .now in
+    let i = c .before .before .before .loop .i in
+    let t = turn (c .before .before) in
+    let f : SFits w64 (c .before .word .result) = search needs in
+    by-tag (getD s i (pos 0)) (getD s (i + 1) (pos 0)) (t .count) (children-node groundLabel (getD s i (pos 0)) (getD s (i + 1) (pos 0)) (t .count) (t .children)) ∙
+    sym (c .children-by-tag .ensures ∙ ap childrenByTag (toZ-ofZ w64 (c .before .word .result) f ∙ c .before .word .ensures))
+
+loop-holds : tie.Need-loop-holds Inv-loop μ-loop
+loop-holds c = term-end-if-is true (c .args .s .now) (c .args .at)
+
+word-requires : tie.Need-word-requires Inv-loop μ-loop
+word-requires c κs = let r = turn c .room in omega arith
+
+sub-rest : tie.Need-sub-rest Inv-loop μ-loop
+sub-rest c = search needs
+
+children-by-tag-requires : tie.Need-children-by-tag-requires Inv-loop μ-loop
+children-by-tag-requires c κs = tt
+
+add-rest : tie.Need-add-rest Inv-loop μ-loop
+add-rest c = let e = counted c in let f = turn (c .before .before) .few in omega arith
+
+add-i : tie.Need-add-i Inv-loop μ-loop
+add-i c = let r = turn (c .before .before) .room in omega arith
+
+loop-less : tie.Need-loop-less Inv-loop μ-loop
+loop-less c = let r = turn (c .before .before) .room in omega arith
+
+loop-again : tie.Need-loop-again Inv-loop μ-loop
+loop-again c =
+    let s = c .before .before .before .before .args .s .now in
+    let at = c .before .before .before .before .args .at in
+    let g = c .before .before .before .before .pre in
+    ends-at s at (g .term) (g .good) (g .ground) (g .stands) ∙
+    sym (rw (counted c) at (turn (c .before .before) .rest))
+
+returns : tie.Need-returns Inv-loop μ-loop
+returns c =
+    let s = c .before .before .args .s .now in
+    let at = c .before .before .args .at in
+    let l = c .before .loop in
+    let z : l .rest ≡ 0 = let h = c .loop-test .left in omega arith in
+    record { ends = λ t x g h. let e = sym (place-done groundLabel s (l .i) (l .rest) z) ∙ (sym (l .inv) ∙ ends-at s at t x g h) in cc }
+
+pub ground-end-spec : {M : Type 1} → statement M
+ground-end-spec =
+    tie.close
+    (tie.spec
+    Inv-loop
+    μ-loop
+    loop-holds
+    word-requires
+    sub-rest
+    children-by-tag-requires
+    add-rest
+    add-i
+    loop-less
+    loop-again
+    returns)

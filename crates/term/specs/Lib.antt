@@ -1,0 +1,2 @@
+pub mod TermEnd
+pub mod Datum

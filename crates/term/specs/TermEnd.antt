@@ -1,0 +1,69 @@
+-- What the routines answer: a node's child count, and the place behind a term whose labels pass a test.
+use mathlib.Core.Bool.{Bool, true, false}
+use mathlib.Core.Option.{Option, none, some}
+use mathlib.Core.List.{List, [], _∷_}
+use Prim.Native.Nat.{ℕ, zero, suc, _+_, _-_}
+use lib.IntN.{ℤ, pos, negsuc}
+use lib.ListN.{drop}
+use Rattle.minuska.specs.Basics.{_>>=_, provided}
+use Rattle.minuska.specs.Computed.Read.{readNode}
+use Rattle.minuska.specs.Function.{functionAt}
+use Rattle.minuska.specs.Term.{Label, role, groundAt}
+use Rattle.term.specs.declared.Count.{Count}
+use Rattle.term.specs.declared.Count.the-variants.{Is, Bad}
+use Rattle.term.specs.declared.Place.{Place}
+use Rattle.term.specs.declared.Place.the-variants.{At, Nowhere}
+
+-- two tests of a label: none, and "tags 0, 1, 2 and 8 to 15 only"
+abbrev pub anyLabel : Label → Bool
+anyLabel l = true
+
+abbrev pub groundLabel : Label → Bool
+groundLabel l = groundAt (role l)
+
+abbrev pub labelTest : Bool → Label → Bool
+labelTest false = anyLabel
+labelTest true = groundLabel
+
+-- the child count that two words say, if they are a node's and its label passes
+abbrev pub childrenIf : (Label → Bool) → ℤ → ℤ → Option ℕ
+childrenIf p t d = readNode t d >>= λ n. provided (p (n .0)) (n .1)
+
+-- how many words the first k terms of a list of words take, if all their labels pass ("a node, then its children left to right")
+abbrev pub extent : (Label → Bool) → List ℤ → ℕ → Option ℕ
+extent p [] zero = some 0
+extent p [] (suc k) = none
+extent p (t ∷ []) zero = some 0
+extent p (t ∷ []) (suc k) = none
+extent p (t ∷ d ∷ ws) zero = some 0
+extent p (t ∷ d ∷ ws) (suc k) = childrenIf p t d >>= λ m. extent p ws (m + k) >>= λ e. some (2 + e)
+
+abbrev pub countOf : Option ℕ → Count
+countOf none = Bad
+countOf (some m) = Is m
+
+abbrev pub placeOf : ℕ → Option ℕ → Place
+placeOf at none = Nowhere
+placeOf at (some m) = At (at + m)
+
+-- SHUT NAMES, which contracts cite. The child count that two words say, if they are a node's; if `ground`, a ground term's node's.
+unfoldable pub childCountOf : ℤ → ℤ → Count
+childCountOf t d = countOf (childrenIf anyLabel t d)
+
+unfoldable pub childCountIf : Bool → ℤ → ℤ → Count
+childCountIf ground t d = countOf (childrenIf (labelTest ground) t d)
+
+-- The place behind the term that starts at a place; if `ground`, behind the ground term.
+unfoldable pub termEnd : List ℤ → ℕ → Place
+termEnd ws at = placeOf at (extent anyLabel (drop at ws) 1)
+
+unfoldable pub termEndIf : Bool → List ℤ → ℕ → Place
+termEndIf ground ws at = placeOf at (extent (labelTest ground) (drop at ws) 1)
+
+-- The column "children": a function's arity ("by function"); any other node's count, by its tag alone ("0", "tag minus 8").
+unfoldable pub arityOf : ℕ → ℕ
+arityOf code = functionAt code .arity
+
+unfoldable pub childrenByTag : ℤ → ℕ
+childrenByTag (pos t) = t - 8
+childrenByTag (negsuc t) = 0

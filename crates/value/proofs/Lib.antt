@@ -1,0 +1,12 @@
+pub mod Shift
+pub mod Checked
+pub mod BuiltinLaw
+pub mod ShareLaw
+pub mod InterpretLaw
+pub mod RootLaw
+pub mod WordsLaw
+pub mod CopyLaw
+pub mod ExpressionLaw
+pub mod MeantLaw
+pub mod ArityLaw
+pub mod ConditionLaw

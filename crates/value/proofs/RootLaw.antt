@@ -1,0 +1,110 @@
+-- The root that a ground node's two words say, and the two words of a value's root.
+use mathlib.Core.Path.{_≡_, refl, sym, _∙_, ap, ap₂}
+use mathlib.Core.Bool.{Bool, true, false, _&&_, cond}
+use mathlib.Core.List.{List, [], _++_}
+use Prim.Native.Nat.{ℕ, _+_, _-_, _^_, _<_}
+use native.Mathlib.Omega.{arith}
+use lib.Dec.{T, eqb, ltb, ltb→lt, lit<}
+use lib.IntN.{ℤ, pos, natAbs}
+use lib.ListN.{getD, length}
+use mir.Syntax.{w64}
+use mir.Val.{SFits, toZ, ofZ}
+use mir.Facts.{toZ-ofZ}
+use Rattle.minuska.specs.Term.{Label, error, truth, whole, variable, call, symbol, nil, Term, single, termCount, role, groundAt, isGround}
+use Rattle.minuska.specs.Word.{tagWord, datumWord, ok, encode}
+use Rattle.minuska.specs.Computed.Read.{guess, childCount, means}
+use Rattle.minuska.specs.Computed.Place.{part}
+use Rattle.minuska.proofs.Tests.{and-left, provided-some}
+use Rattle.minuska.proofs.WordLaw.{read-node, okay}
+use Rattle.minuska.proofs.PlaceLaw.{two-words}
+use Rattle.value.specs.Builtin.{scalarOf}
+use Rattle.value.specs.Root.{Head, HeadIs}
+use Rattle.value.specs.Value.{valueWords, IsValue}
+use Rattle.value.specs.declared.builtin.Scalar.the-variants.{Error, Truth, Whole}
+use Rattle.value.specs.declared.Value.the-variants.{Table, Configuration, Computed}
+use Rattle.value.proofs.Shift.{lit-pos}
+
+-- the label is the one that the words can only mean
+head-label : (t d : ℤ) (l : Label) (k : ℕ) → Head t d l k → guess (natAbs t) d ≡ l
+head-label t d l k h =
+    ap₂ (λ x y. guess (natAbs x) y) (h .tag) (h .datum) ∙
+    ap (λ (p : Label × ℕ). p .0) (provided-some (means m n (tagWord l k) (datumWord l)) (m, n) (l, k) (read-node l k (h .good)) .1)
+  where
+    m : Label
+    m = guess (natAbs (tagWord l k)) (datumWord l)
+
+    n : ℕ
+    n = childCount m (natAbs (tagWord l k))
+
+bit : (b : Bool) → eqb (ofZ w64 (pos (cond b 1 0))) 1 ≡ b
+bit true = refl
+bit false = refl
+
+module _ (t d : ℤ) (f : SFits w64 t) where
+  at-tag : (n : ℕ) → n < 2 ^ 63 → ofZ w64 t ≡ n → (l : Label) (k : ℕ) → Head t d l k → guess n d ≡ l
+  at-tag n s e l k h = ap (λ (x : ℤ). guess (natAbs x) d) (sym (lit-pos t n (f .sfits) s e)) ∙ head-label t d l k h
+
+  pub root-error : ofZ w64 t ≡ 0 → HeadIs t d Error
+  root-error e = record { is = λ l k h. ap scalarOf (at-tag 0 (lit< tt) e l k h) }
+
+  pub root-truth : ofZ w64 t ≡ 1 → HeadIs t d (Truth (eqb (ofZ w64 d) 1))
+  root-truth e =
+      record {
+        is = λ l k h.
+            let p : truth (eqb (natAbs d) 1) ≡ l = at-tag 1 (lit< tt) e l k h in
+            let q : d ≡ pos (cond (eqb (natAbs d) 1) 1 0) = h .datum ∙ ap datumWord (sym p) in
+            ap (λ (x : ℤ). Truth (eqb (ofZ w64 x) 1)) q ∙ (ap Truth (bit (eqb (natAbs d) 1)) ∙ ap scalarOf p);
+      }
+
+  pub root-whole : SFits w64 d → ofZ w64 t ≡ 2 → HeadIs t d (Whole (toZ w64 (ofZ w64 d)))
+  root-whole g e = record { is = λ l k h. ap Whole (toZ-ofZ g) ∙ ap scalarOf (at-tag 2 (lit< tt) e l k h) }
+
+-- any other tag is a symbol's
+pub record SymbolHead (d : ℤ) (l : Label) : Type 0 where
+  pub number : ℕ
+  pub is : symbol number ≡ l
+  pub small : number < 4096
+  pub datum : d ≡ pos number
+
+pub symbol-head : (t d : ℤ) (l : Label) (k : ℕ) → Head t d l k → (ofZ w64 t ≡ 0 → ⊥) → (ofZ w64 t ≡ 1 → ⊥) → (ofZ w64 t ≡ 2 → ⊥) → SymbolHead d l
+symbol-head t d error k h n₀ n₁ n₂ = absurd (n₀ (ap (ofZ w64) (h .tag)))
+symbol-head t d (truth b) k h n₀ n₁ n₂ = absurd (n₁ (ap (ofZ w64) (h .tag)))
+symbol-head t d (whole z) k h n₀ n₁ n₂ = absurd (n₂ (ap (ofZ w64) (h .tag)))
+symbol-head t d (variable v) k h n₀ n₁ n₂ = absurd (h .ground)
+symbol-head t d (call c) k h n₀ n₁ n₂ = absurd (h .ground)
+symbol-head t d (symbol s) k h n₀ n₁ n₂ =
+    record { number = s; is = refl; small = ltb→lt s 4096 (and-left (ltb s 4096) (ltb k 8) (h .good)); datum = h .datum }
+
+-- ---- the first two words of a term that stands as a part
+pub record PartHead (ws : List ℤ) (from : ℕ) (t : Term) : Type 0 where
+  pub room : from + 1 < length ws
+  pub head : Head (getD ws from (pos 0)) (getD ws (from + 1) (pos 0)) (t .label) (termCount (t .children))
+
+own-head : (t : Term) → T (ok (single t)) → T (isGround (single t)) → Head (tagWord (t .label) (termCount (t .children))) (datumWord (t .label)) (t .label) (termCount (t .children))
+own-head t o g =
+    let a = groundAt (role (t .label)) in
+    let b = isGround (t .children) in
+    record { good = okay (t .label) (t .children) nil o .allowed; ground = and-left a b (and-left (a && b) true g); tag = refl; datum = refl }
+
+pub part-head : (ws : List ℤ) (from to : ℕ) (t : Term) → T (ok (single t)) → T (isGround (single t)) → part ws from to ≡ encode (single t) → PartHead ws from t
+part-head ws from to t o g e =
+    let w = two-words ws from (to - from) (tagWord (t .label) (termCount (t .children))) (datumWord (t .label)) (encode (t .children) ++ []) e in
+    let h = own-head t o g in
+    let r = w .room in
+    record { room = omega arith; head = record { good = h .good; ground = h .ground; tag = w .first; datum = w .second } }
+
+module _ (table config : List ℤ) (t : Term) where
+  pub table-head : (from to : ℕ) → IsValue table config (Table from to) t → PartHead table from t
+  unfolding valueWords
+  table-head from to v = part-head table from to t (v .good) (v .ground) (v .words)
+
+  pub configuration-head : (from to : ℕ) → IsValue table config (Configuration from to) t → PartHead config from t
+  unfolding valueWords
+  configuration-head from to v = part-head config from to t (v .good) (v .ground) (v .words)
+
+  pub computed-head : (x y : ℤ) → IsValue table config (Computed x y) t → Head x y (t .label) (termCount (t .children))
+  unfolding valueWords
+  computed-head x y v =
+      let h = own-head t (v .good) (v .ground) in
+      let e = v .words in
+      record { good = h .good; ground = h .ground; tag = ap (λ (l : List ℤ). getD l 0 (pos 0)) e; datum = ap (λ (l : List ℤ). getD l 1 (pos 0)) e }

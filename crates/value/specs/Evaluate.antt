@@ -1,0 +1,102 @@
+-- What stands in the table where an expression is evaluated, and what is answered: "A literal or a variable is worth a term: the answer is a part of the
+-- table or a part of the configuration, uncopied. .. An expression's value needs its argument list, and an argument list its expressions." "A condition
+-- holds if both sides have the same value."
+use mathlib.Core.Path.{_≡_}
+use mathlib.Core.Logic.{_↔_}
+use mathlib.Core.Option.{some}
+use mathlib.Core.List.{List}
+use Prim.Native.Nat.{ℕ, _+_, _≤_}
+use lib.Dec.{T}
+use lib.IntN.{ℤ}
+use lib.ListN.{length, getD}
+use Rattle.minuska.specs.Term.{Forest, Term, single, termCount, Role, aVariable, aCall, plain, role}
+use Rattle.minuska.specs.Word.{ok, encode}
+use Rattle.minuska.specs.Function.{argument}
+use Rattle.minuska.specs.Rule.{isExpression}
+use Rattle.minuska.specs.Satisfaction.{Valuation, SideCondition, Evaluates, Holds}
+use Rattle.minuska.specs.Computed.Value.{value, values, holds}
+use Rattle.minuska.specs.Computed.Place.{Stands, Binds}
+use Rattle.value.specs.Builtin.{scalarOf}
+use Rattle.value.specs.Root.{computedOf}
+use Rattle.value.specs.Value.{valueWords, IsValue}
+use Rattle.value.specs.declared.Value.the-variants.{Table, Configuration}
+use Rattle.value.specs.declared.Evaluated.{Evaluated}
+use Rattle.value.specs.declared.Roots.{Roots}
+use Rattle.value.specs.declared.Tested.{Tested}
+
+module _ (table config : List ℤ) (starts ends : List ℕ) (at : ℕ) where
+  -- Good expressions stand at a place of the table, and a valuation is bound to parts of the configuration.
+  pub record Placed (ρ : Valuation) (es : Forest) : Type 0 where
+    pub good : T (ok es)
+    pub expressions : T (isExpression es)
+    pub stands : Stands table at (encode es)
+    pub binds : Binds config starts ends ρ
+
+  -- AN EXPRESSION with a value. It is required that one stands there, and ensured of whatever one stands there.
+  pub record HasValue (ρ : Valuation) (e t : Term) : Type 0 where
+    pub placed : Placed ρ (single e)
+    pub is : value ρ e ≡ some t
+
+  pub record ExpressionIn : Type 0 where
+    pub valuation : Valuation
+    pub expression : Term
+    pub term : Term
+    pub has : HasValue valuation expression term
+
+  -- where the value is: a variable's part of the configuration, a literal's part of the table; a call's is computed
+  abbrev pub Where : Role → Term → Evaluated → Type 0
+  Where (aVariable v) t r = r .value ≡ Configuration (getD starts v 0) (getD ends v 0)
+  Where (aCall c) t r = r .value ≡ computedOf (scalarOf (t .label))
+  Where plain t r = r .value ≡ Table at (r .next)
+
+  pub record Meant (e t : Term) (r : Evaluated) : Type 0 where
+    pub is : IsValue table config (r .value) t
+    pub place : Where (role (e .label)) t r
+    pub next : r .next ≡ at + length (encode (single e))
+
+  pub record EvaluateContract (r : Evaluated) : Type 0 where
+    pub meant : (ρ : Valuation) (e t : Term) → HasValue ρ e t → Meant e t r
+    pub satisfied : (ρ : Valuation) (e t : Term) → Placed ρ (single e) → Evaluates ρ (single e) (single t) → valueWords table config (r .value) ≡ encode (single t)
+
+  -- AN ARGUMENT LIST: the roots of its values, error where there is none.
+  pub record HaveValues (ρ : Valuation) (es xs : Forest) : Type 0 where
+    pub placed : Placed ρ es
+    pub are : values ρ es ≡ some xs
+
+  pub record ArgumentsIn (count : ℕ) : Type 0 where
+    pub valuation : Valuation
+    pub expressions : Forest
+    pub terms : Forest
+    pub have : HaveValues valuation expressions terms
+    pub many : termCount expressions ≡ count
+    pub few : count ≤ 3
+
+  pub record RootsMeant (es xs : Forest) (r : Roots) : Type 0 where
+    pub first : r .first ≡ scalarOf (argument 0 xs)
+    pub second : r .second ≡ scalarOf (argument 1 xs)
+    pub third : r .third ≡ scalarOf (argument 2 xs)
+    pub next : r .next ≡ at + length (encode es)
+
+  pub record ArgumentsContract (count : ℕ) (r : Roots) : Type 0 where
+    pub meant : (ρ : Valuation) (es xs : Forest) → HaveValues ρ es xs → termCount es ≡ count → RootsMeant es xs r
+
+-- A SIDE CONDITION: two expressions one behind the other, both with a value.
+module _ (table config : List ℤ) (starts ends : List ℕ) (at : ℕ) where
+  pub record ConditionAt (ρ : Valuation) (c : SideCondition) : Type 0 where
+    pub first : Term
+    pub second : Term
+    pub first-has : HasValue table config starts ends at ρ (c .first) first
+    pub second-has : HasValue table config starts ends (at + length (encode (single (c .first)))) ρ (c .second) second
+
+  pub record ConditionIn : Type 0 where
+    pub valuation : Valuation
+    pub condition : SideCondition
+    pub stands : ConditionAt valuation condition
+
+  pub record ConditionMeant (ρ : Valuation) (c : SideCondition) (r : Tested) : Type 0 where
+    pub holds : r .holds ≡ holds ρ c
+    pub satisfied : T (r .holds) ↔ Holds ρ c
+    pub next : r .next ≡ at + length (encode (single (c .first))) + length (encode (single (c .second)))
+
+  pub record ConditionContract (r : Tested) : Type 0 where
+    pub meant : (ρ : Valuation) (c : SideCondition) → ConditionAt ρ c → ConditionMeant ρ c r
