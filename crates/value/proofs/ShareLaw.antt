@@ -12,24 +12,7 @@ use mir.Syntax.{w64}
 use mir.Val.{SFits, ofZ}
 use Rattle.minuska.specs.Function.{shareRange}
 use Rattle.minuska.proofs.Tests.{and-left, and-right}
-
-abs-neg : (n : ℕ) → natAbs (negℤ (pos n)) ≡ n
-abs-neg zero = refl
-abs-neg (suc n) = refl
-
-abs-mul : (a b : ℤ) → natAbs (a *ℤ b) ≡ natAbs a * natAbs b
-abs-mul (pos a) (pos b) = refl
-abs-mul (pos a) (negsuc b) = abs-neg (a * suc b)
-abs-mul (negsuc a) (pos b) = abs-neg (suc a * b)
-abs-mul (negsuc a) (negsuc b) = refl
-
-abs-quot : (z : ℤ) (n : ℕ) → natAbs (quotZ z (pos n)) ≤ natAbs z
-abs-quot (pos a) n = div-le-self a n
-abs-quot (negsuc a) n = rw (abs-neg (suc a / n)) (div-le-self (suc a) n)
-
-mag-abs : (z : ℤ) → mag z ≤ natAbs z
-mag-abs (pos a) = omega arith
-mag-abs (negsuc a) = omega arith
+use Rattle.minuska.proofs.RangeLaw.{abs-mul, abs-quot, mag-abs}
 
 -- the ranges, one by one
 pub record InRange (a b c : ℤ) : Type 0 where

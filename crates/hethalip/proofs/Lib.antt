@@ -1,0 +1,4 @@
+pub mod RefusalLaw
+pub mod RangeLaw
+pub mod UnpackLaw
+pub mod ReadLaw

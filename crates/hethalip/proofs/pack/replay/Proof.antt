@@ -1,0 +1,34 @@
+-- `pack::replay` meets its contract, case by case. Assumes nothing.
+use borrow.Author.Needs.{needs}
+use Rattle.hethalip.specs.Pack.{packReplay}
+use Rattle.hethalip.proofs.pack.replay.Statement.{statement}
+use Rattle.hethalip.proofs.pack.replay.Tie as tie
+
+enum-told : tie.Need-enum-told
+enum-told c = search needs
+
+enum-told-2 : tie.Need-enum-told-2
+enum-told-2 c = search needs
+
+enum-known-answer : tie.Need-enum-known-answer
+enum-known-answer c = search needs
+
+refusal-requires : tie.Need-refusal-requires
+refusal-requires c κs = search needs
+
+returns : tie.Need-returns
+unfolding packReplay
+returns c = rw (c .enum-told .given .1)
+
+returns-2 : tie.Need-returns-2
+unfolding packReplay
+returns-2 c = rw (c .enum-told2 .given .1)
+
+returns-3 : tie.Need-returns-3
+unfolding packReplay
+returns-3 c = rw (c .before .before .answer .given .1) (c .refusal .ensures)
+
+pub replay-spec : {M : Type 1} → statement M
+replay-spec =
+    tie.close
+    (tie.spec enum-told enum-told-2 enum-known-answer refusal-requires returns returns-2 returns-3)

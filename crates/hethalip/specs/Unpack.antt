@@ -1,0 +1,48 @@
+-- How a caller reads the number: the kind in the low byte, then the values. `proofs/UnpackLaw`: it is the answer that was packed.
+use mathlib.Core.Path.{_≡_}
+use mathlib.Core.Bool.{cond}
+use mathlib.Core.List.{List, [], _∷_}
+use Prim.Native.Nat.{ℕ, _<_, _/_, _%_, _^_}
+use lib.Dec.{eqb}
+use lib.ListN.{getD}
+use Rattle.minuska.specs.declared.Refusal.{Refusal}
+use Rattle.minuska.specs.declared.Refusal.the-variants.{BadTable, BadConfiguration, TooLong, BadLimit, ShortBuffer, OverLimit, Unreadable}
+use Rattle.minuska.specs.declared.Check.{Check}
+use Rattle.minuska.specs.declared.Check.the-variants as C
+use Rattle.minuska.specs.declared.StepAnswer.{StepAnswer}
+use Rattle.minuska.specs.declared.StepAnswer.the-variants as S
+use Rattle.minuska.specs.declared.RunAnswer.{RunAnswer}
+use Rattle.minuska.specs.declared.RunAnswer.the-variants as R
+use Rattle.minuska.specs.declared.ReplayAnswer.{ReplayAnswer}
+use Rattle.minuska.specs.declared.ReplayAnswer.the-variants as P
+
+abbrev pub kind : ℕ → ℕ
+kind r = r % 2 ^ 8
+
+-- a refusal by its number, from 1
+abbrev pub refusals : List Refusal
+refusals = Unreadable ∷ BadTable ∷ BadConfiguration ∷ TooLong ∷ BadLimit ∷ ShortBuffer ∷ OverLimit ∷ []
+
+abbrev pub refusalOf : ℕ → Refusal
+refusalOf n = getD refusals n Unreadable
+
+unfoldable pub unpackCheck : ℕ → Check
+unpackCheck r = cond (eqb (kind r) 0) C.Good (C.Refused (refusalOf (kind r)))
+
+unfoldable pub unpackStep : ℕ → StepAnswer
+unpackStep r =
+    cond (eqb (kind r) 17) (S.Stepped (r / 2 ^ 8 % 2 ^ 8) (r / 2 ^ 16 % 2 ^ 16) (r / 2 ^ 32)) (cond (eqb (kind r) 16) S.Stuck (S.Refused (refusalOf (kind r))))
+
+unfoldable pub unpackRun : ℕ → RunAnswer
+unpackRun r =
+    cond (eqb (kind r) 18) (R.Stuck (r / 2 ^ 8))
+    (cond (eqb (kind r) 19) (R.Spent (r / 2 ^ 8)) (cond (eqb (kind r) 6) (R.Over (r / 2 ^ 8)) (R.Refused (refusalOf (kind r)))))
+
+unfoldable pub unpackReplay : ℕ → ReplayAnswer
+unpackReplay r = cond (eqb (kind r) 20) P.Reproduced (cond (eqb (kind r) 21) P.NotReproduced (P.Refused (refusalOf (kind r))))
+
+-- No digit is lost: the number of an answer in range is below 2 ^ 64, and reads back as that answer, so no other has it.
+pub record Lossless {A : Type 0} (pack : A → ℕ) (unpack : ℕ → A) (InRange : A → Type 0) : Type 0 where
+  pub fits : (a : A) → InRange a → pack a < 2 ^ 64
+  pub reads : (a : A) → InRange a → unpack (pack a) ≡ a
+  pub injective : (a b : A) → InRange a → InRange b → pack a ≡ pack b → a ≡ b

@@ -1,0 +1,250 @@
+//! The random calls meet what they are for. These counts are of the generator, not of a routine.
+
+use agree::call::Call;
+use agree::compare::perform;
+use agree::generate::Calls;
+use agree::search::search;
+use interpreter::tree::{Label, Rule, Table, Term, Valuation, matches, value};
+use interpreter::{Routines, Tree};
+use std::collections::BTreeMap;
+
+const CALLS: usize = 40_000;
+
+#[test]
+fn every_kind_of_answer() {
+    let mut counts: BTreeMap<String, usize> = BTreeMap::new();
+    let mut calls = Calls::new(3);
+    for _ in 0..CALLS {
+        let call = calls.next_call();
+        let answer = perform(&call, &Tree).answer;
+        let kind = format!("{} {}", call.routine(), answer.kind());
+        *counts.entry(kind).or_default() += 1;
+    }
+    println!("{counts:#?}");
+    let kinds: [(&str, &[&str]); 6] = [
+        ("check_table", &["good", "refused 1"]),
+        ("check_configuration", &["good", "refused 2"]),
+        (
+            "step",
+            &["stepped", "stuck", "refused 1", "refused 2", "refused 6"],
+        ),
+        (
+            "step_by_rule",
+            &["stepped", "stuck", "refused 1", "refused 2", "refused 6"],
+        ),
+        (
+            "run",
+            &[
+                "stuck",
+                "spent",
+                "refused 1",
+                "refused 2",
+                "refused 3",
+                "refused 4",
+                "refused 5",
+                "refused 6",
+            ],
+        ),
+        (
+            "replay",
+            &[
+                "reproduced",
+                "not reproduced",
+                "refused 1",
+                "refused 2",
+                "refused 3",
+                "refused 4",
+                "refused 5",
+                "refused 6",
+            ],
+        ),
+    ];
+    for (routine, kinds) in kinds {
+        for kind in kinds {
+            let name = format!("{routine} {kind}");
+            let count = counts.get(&name).copied().unwrap_or(0);
+            assert!(count >= 50, "{name}: {count}");
+        }
+    }
+}
+
+/// What a call of a function gives: its code and the kind of the value.
+type Values = BTreeMap<(i64, &'static str), usize>;
+
+fn count_calls(term: &Term, valuation: &Valuation, values: &mut Values) {
+    if let Label::Call(function) = term.label() {
+        let kind = match value(term, valuation).label() {
+            Label::Error => "error",
+            Label::Bool(false) => "false",
+            Label::Bool(true) => "true",
+            Label::Int(number) if number < 0 => "negative",
+            Label::Int(_) => "number",
+            _ => "other",
+        };
+        *values.entry((function.code(), kind)).or_default() += 1;
+    }
+    for child in term.children() {
+        count_calls(child, valuation, values);
+    }
+}
+
+/// How often rules matched, and why they did not apply or did.
+#[derive(Default, Debug)]
+struct Rules {
+    unmatched: usize,
+    repeated: usize,
+    repeated_unmatched: usize,
+    condition_failed: usize,
+    conditions_hold: usize,
+    eight_conditions: usize,
+    values: Values,
+}
+
+impl Rules {
+    fn count(&mut self, rule: &Rule, configuration: &Term) {
+        let repeated = repeats_a_variable(&rule.left);
+        let Some(valuation) = matches(&rule.left, configuration) else {
+            self.unmatched += 1;
+            self.repeated_unmatched += repeated as usize;
+            return;
+        };
+        self.repeated += repeated as usize;
+        count_calls(&rule.right, &valuation, &mut self.values);
+        for (one, two) in &rule.conditions {
+            count_calls(one, &valuation, &mut self.values);
+            count_calls(two, &valuation, &mut self.values);
+        }
+        let applies = rule.successor(configuration).is_some();
+        self.condition_failed += !applies as usize;
+        self.conditions_hold += (applies && !rule.conditions.is_empty()) as usize;
+        self.eight_conditions += (applies && rule.conditions.len() == 8) as usize;
+    }
+}
+
+fn repeats_a_variable(left: &Term) -> bool {
+    let words = left.words();
+    let mut variables: Vec<i64> = words
+        .chunks(2)
+        .filter(|node| node[0] == 3)
+        .map(|node| node[1])
+        .collect();
+    let count = variables.len();
+    variables.sort_unstable();
+    variables.dedup();
+    variables.len() < count
+}
+
+#[test]
+fn rules_and_functions() {
+    let mut rules = Rules::default();
+    let mut calls = Calls::new(4);
+    for _ in 0..CALLS {
+        let call = calls.next_call();
+        if !matches!(call, Call::Step { .. } | Call::StepByRule { .. }) {
+            continue;
+        }
+        let table = Table::read(call.table());
+        let configuration = Term::read(call.configuration(), 32_768);
+        if let (Some(table), Some((configuration, []))) = (table, configuration)
+            && configuration.is_ground()
+        {
+            for rule in &table.rules {
+                rules.count(rule, &configuration);
+            }
+        }
+    }
+    println!("{rules:?}");
+    assert!(rules.repeated > 500 && rules.repeated_unmatched > 200);
+    assert!(rules.condition_failed > 500 && rules.conditions_hold > 500);
+    assert!(rules.eight_conditions > 20);
+    assert_functions(&rules.values);
+}
+
+/// Every function gives every kind of value that it can.
+fn assert_functions(values: &Values) {
+    for code in 0..15 {
+        let kinds: &[&str] = match code {
+            0 => &["true"],
+            1 => &["false"],
+            2..=5 | 10..=12 => &["true", "false", "error"],
+            6 | 7 | 13 => &["true", "false"],
+            _ => &["number", "negative", "error"],
+        };
+        for kind in kinds {
+            let count = values.get(&(code, kind)).copied().unwrap_or(0);
+            assert!(count >= 40, "function {code} {kind}: {count}");
+        }
+        let wrong = values
+            .iter()
+            .find(|((other, kind), _)| *other == code && !kinds.contains(kind));
+        assert_eq!(wrong, None);
+    }
+}
+
+#[test]
+fn searches() {
+    let mut counts: BTreeMap<String, usize> = BTreeMap::new();
+    let mut calls = Calls::new(6);
+    for _ in 0..CALLS {
+        let call = calls.next_call();
+        let Call::Replay {
+            table,
+            configuration,
+            log,
+            limit,
+            ..
+        } = &call
+        else {
+            continue;
+        };
+        let kind = perform(&call, &Tree).answer.kind();
+        if kind.starts_with("refused") && kind != "refused 6" {
+            continue;
+        }
+        let table = Table::read(table).expect("a good table");
+        let (initial, _) = Term::read(configuration, 32_768).expect("a good configuration");
+        let met = search(&table, &initial, log, *limit as usize, usize::MAX).expect("it ends");
+        let mut count = |what: &str| *counts.entry(format!("{kind}, {what}")).or_default() += 1;
+        count("all");
+        if met.backtracks > 1 {
+            count("after going back");
+        }
+        if met.backtracks > 20 {
+            count("after going back often");
+        }
+        if met.over {
+            count("with a successor above the limit");
+        }
+        if met.successors > 100 {
+            count("by a long search");
+        }
+        if log.len() > 20 {
+            count("of a long log");
+        }
+    }
+    println!("{counts:#?}");
+    let wanted = [
+        ("reproduced, after going back", 200),
+        ("reproduced, after going back often", 20),
+        ("reproduced, with a successor above the limit", 50),
+        ("reproduced, of a long log", 20),
+        ("not reproduced, after going back", 200),
+        ("not reproduced, after going back often", 50),
+        ("not reproduced, by a long search", 20),
+        ("refused 6, after going back", 100),
+        ("refused 6, after going back often", 20),
+    ];
+    for (kind, least) in wanted {
+        let count = counts.get(kind).copied().unwrap_or(0);
+        assert!(count >= least, "{kind}: {count}");
+    }
+}
+
+#[test]
+fn names_differ() {
+    let names: Vec<&str> = agree::engines::ALL
+        .iter()
+        .map(|engine| Routines::name(*engine))
+        .collect();
+    assert!(names.len() >= 2 && names[0] != names[1]);
+}

@@ -1,0 +1,288 @@
+//! The cases: what is called, on what, and how many steps that is.
+
+use crate::rules;
+use agree::search::search;
+use agree::words::{RuleWords, Words, bush, chain, int, spin_rules, symbol, table};
+use interpreter::tree::{Table, Term};
+use interpreter::{Check, Replay, Routines, Run, Step, Tuned};
+
+/// What a case calls.
+enum Routine {
+    CheckTable,
+    Step,
+    Run { budget: u64 },
+    Replay { log: Vec<u16>, answer: Replay },
+}
+
+/// A case, with its buffers.
+pub struct Case {
+    /// What it is.
+    pub name: String,
+    routine: Routine,
+    table: Words,
+    configuration: Words,
+    limit: usize,
+    out: Words,
+    spare: Words,
+    choices: Vec<u16>,
+    work: Words,
+    /// The steps of one call, once they are known.
+    steps: u64,
+}
+
+impl Case {
+    fn new(
+        name: &str,
+        rules: &[RuleWords],
+        configuration: Words,
+        limit: usize,
+        routine: Routine,
+    ) -> Case {
+        let log_len = match &routine {
+            Routine::Replay { log, .. } => log.len(),
+            _ => 0,
+        };
+        let mut case = Case {
+            name: name.to_string(),
+            routine,
+            table: table(rules),
+            configuration,
+            limit,
+            out: vec![0; 2 * limit],
+            spare: vec![0; 2 * limit],
+            choices: vec![0; log_len],
+            work: vec![0; (log_len + 1) * (2 * limit + 2)],
+            steps: 0,
+        };
+        case.count_steps();
+        case
+    }
+
+    /// The steps of one call: those of a run, the successors formed by a replay, one of a step, the
+    /// words of a check.
+    pub fn steps(&self) -> u64 {
+        self.steps
+    }
+
+    fn count_steps(&mut self) {
+        self.steps = match &self.routine {
+            Routine::CheckTable => self.table.len() as u64,
+            Routine::Step => 1,
+            Routine::Run { .. } => 0,
+            Routine::Replay { log, .. } => {
+                let table = Table::read(&self.table).expect("a good table");
+                let (initial, _) = Term::read(&self.configuration, self.limit).expect("a term");
+                let met = search(&table, &initial, log, self.limit, usize::MAX);
+                met.expect("it ends").successors as u64
+            }
+        };
+        if let Routine::Run { .. } = self.routine {
+            self.steps = self.perform(&Tuned);
+        }
+    }
+
+    /// Performs the case once, and gives the steps of a run.
+    pub fn perform(&mut self, engine: &dyn Routines) -> u64 {
+        match &self.routine {
+            Routine::CheckTable => {
+                assert_eq!(engine.check_table(&self.table), Check::Good);
+            }
+            Routine::Step => {
+                let answer = engine.step(&self.table, &self.configuration, &mut self.out);
+                assert!(matches!(answer, Step::Stepped { .. }));
+            }
+            Routine::Run { budget } => {
+                let answer = engine.run(
+                    &self.table,
+                    &self.configuration,
+                    *budget,
+                    self.limit as u64,
+                    &mut self.out,
+                    &mut self.spare,
+                );
+                return steps_of(answer);
+            }
+            Routine::Replay { log, answer } => {
+                let given = engine.replay(
+                    &self.table,
+                    &self.configuration,
+                    log,
+                    self.limit as u64,
+                    &mut self.out,
+                    &mut self.choices,
+                    &mut self.work,
+                );
+                assert_eq!(given, *answer);
+            }
+        }
+        self.steps
+    }
+
+    /// The last configuration of the last run.
+    fn out(&self) -> &[i64] {
+        &self.out
+    }
+}
+
+fn steps_of(answer: Run) -> u64 {
+    match answer {
+        Run::Stuck { steps } | Run::Spent { steps } => steps,
+        other => panic!("{other:?}"),
+    }
+}
+
+/// All cases.
+pub fn all() -> Vec<Case> {
+    let mut cases = runs();
+    cases.extend(carried());
+    cases.extend(replays());
+    cases.extend(single());
+    cases
+}
+
+fn runs() -> Vec<Case> {
+    let run = |name: &str, rules: &[RuleWords], configuration, budget, limit| {
+        Case::new(name, rules, configuration, limit, Routine::Run { budget })
+    };
+    let million = 1_000_000;
+    let fib = run(
+        "unary Fibonacci of 15",
+        &rules::unary_fib(),
+        rules::fib_of(15),
+        million,
+        4_000,
+    );
+    assert_eq!(rules::number_of(fib.out()), 610);
+    let fact = run(
+        "unary factorial of 6",
+        &rules::unary_fact(),
+        rules::fact_of(6),
+        million,
+        4_000,
+    );
+    assert_eq!(rules::number_of(fact.out()), 720);
+    vec![
+        run(
+            "two counters",
+            &rules::two_counters(),
+            rules::counters(million as i64, 0),
+            million,
+            3,
+        ),
+        fib,
+        fact,
+        run(
+            "200 rules",
+            &rules::two_hundred(),
+            rules::at(0, int(5)),
+            100_000,
+            8,
+        ),
+        run(
+            "200 rules with conditions",
+            &rules::two_hundred_guarded(),
+            symbol(0, &[int(0), int(5)]),
+            100_000,
+            8,
+        ),
+    ]
+}
+
+/// Large configurations of which little changes.
+fn carried() -> Vec<Case> {
+    let mut cases = Vec::new();
+    for (shape, load) in [("bush", bush(30_000)), ("chain", chain(30_000, 7))] {
+        for (place, first) in [("behind", false), ("in front", true)] {
+            let counter = int(300);
+            let children = if first {
+                [load.clone(), counter]
+            } else {
+                [counter, load.clone()]
+            };
+            cases.push(Case::new(
+                &format!("{shape} of 30,000 nodes carried {place}"),
+                &rules::carry(first),
+                symbol(0, &children),
+                30_010,
+                Routine::Run { budget: 1_000 },
+            ));
+        }
+    }
+    cases
+}
+
+fn replays() -> Vec<Case> {
+    let replay = |name: &str, rules: &[RuleWords], configuration, limit, log, answer| {
+        let routine = Routine::Replay { log, answer };
+        Case::new(name, rules, configuration, limit, routine)
+    };
+    let spins = [vec![10; 2], vec![20]].concat();
+    vec![
+        replay(
+            "replay of 4,096 actions, none shared",
+            &rules::two_counters(),
+            rules::counters(5_000, 0),
+            3,
+            vec![1; 4_096],
+            Replay::Reproduced,
+        ),
+        replay(
+            "replay of 500 nested bonus rounds and back, none shared",
+            &rules::bonus(),
+            int(1),
+            1_001,
+            [vec![10; 500], vec![20; 500]].concat(),
+            Replay::Reproduced,
+        ),
+        replay(
+            "replay of 3,000 actions, shared",
+            &spin_rules(),
+            symbol(1, &[int(2_000)]),
+            4,
+            spins.repeat(1_000),
+            Replay::Reproduced,
+        ),
+        replay(
+            "replay of 17 actions, all shared, not reproduced",
+            &rules::doubled(),
+            symbol(1, &[int(0)]),
+            2,
+            [vec![10; 16], vec![20]].concat(),
+            Replay::NotReproduced,
+        ),
+    ]
+}
+
+/// Single calls, which check their input each time.
+fn single() -> Vec<Case> {
+    let step = |name: &str, rules: &[RuleWords], configuration, limit| {
+        Case::new(name, rules, configuration, limit, Routine::Step)
+    };
+    vec![
+        step(
+            "one step, checks included",
+            &spin_rules(),
+            symbol(1, &[int(2)]),
+            4,
+        ),
+        step(
+            "one step, checks included, 200 rules",
+            &rules::two_hundred(),
+            rules::at(199, int(5)),
+            8,
+        ),
+        step(
+            "one step, checks included, 30,000 nodes",
+            &rules::carry(false),
+            symbol(0, &[int(5), bush(30_000)]),
+            30_010,
+        ),
+        Case::new(
+            "check of a table of 200 rules, a word",
+            &rules::two_hundred_guarded(),
+            int(0),
+            1,
+            Routine::CheckTable,
+        ),
+    ]
+}

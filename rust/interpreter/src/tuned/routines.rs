@@ -1,0 +1,249 @@
+//! The routines over slices.
+
+use super::check::{index, is_configuration};
+use super::rules::{Bindings, Rules};
+use super::{Node, nodes, nodes_mut};
+use crate::answer::{Check, Refusal, Replay, Run, Step};
+use crate::limits;
+
+/// Whether the words are a well formed table.
+pub fn check_table(table: &[i64]) -> Check {
+    match index(table) {
+        Some(_) => Check::Good,
+        None => Check::Refused(Refusal::BadTable),
+    }
+}
+
+/// Whether the words are a well formed configuration.
+pub fn check_configuration(configuration: &[i64]) -> Check {
+    if is_configuration(configuration) {
+        Check::Good
+    } else {
+        Check::Refused(Refusal::BadInitial)
+    }
+}
+
+/// One step, by the lowest rule that applies. The limit is what `out` holds.
+pub fn step(table: &[i64], configuration: &[i64], out: &mut [i64]) -> Step {
+    let (rules, configuration) = match check_both(table, configuration) {
+        Ok(both) => both,
+        Err(refusal) => return Step::Refused(refusal),
+    };
+    let mut bindings = Bindings::default();
+    match rules.first(configuration, &mut bindings) {
+        Some(rule) => write_step(&rules, rule, configuration, &bindings, out),
+        None => Step::Stuck,
+    }
+}
+
+/// One step by the rule of that number. A number that names no rule does not apply.
+pub fn step_by_rule(table: &[i64], configuration: &[i64], rule: usize, out: &mut [i64]) -> Step {
+    let (rules, configuration) = match check_both(table, configuration) {
+        Ok(both) => both,
+        Err(refusal) => return Step::Refused(refusal),
+    };
+    let mut bindings = Bindings::default();
+    match rules.rules.get(rule) {
+        Some(named) if rules.applies(named, configuration, &mut bindings) => {
+            write_step(&rules, rule, configuration, &bindings, out)
+        }
+        _ => Step::Stuck,
+    }
+}
+
+/// The step repeated, at most `budget` times, within `limit` nodes.
+pub fn run(
+    table: &[i64],
+    configuration: &[i64],
+    budget: u64,
+    limit: u64,
+    out: &mut [i64],
+    spare: &mut [i64],
+) -> Run {
+    let long = budget > limits::BUDGET;
+    let (rules, initial, limit) = match check_all(table, configuration, long, limit) {
+        Ok(all) => all,
+        Err(refusal) => return Run::Refused(refusal),
+    };
+    if out.len() < 2 * limit || spare.len() < 2 * limit {
+        return Run::Refused(Refusal::ShortBuffer);
+    }
+    let out = nodes_mut(&mut out[..2 * limit]);
+    let spare = nodes_mut(&mut spare[..2 * limit]);
+    let (answer, steps, size) = run_between(&rules, initial, budget, out, spare);
+    if steps % 2 == 1 {
+        out[..size].copy_from_slice(&spare[..size]);
+    }
+    out[size..].fill([0, 0]);
+    spare.fill([0, 0]);
+    answer
+}
+
+/// The search for the first list of rules that yields the log within `limit` nodes.
+pub fn replay(
+    table: &[i64],
+    configuration: &[i64],
+    log: &[u16],
+    limit: u64,
+    out: &mut [i64],
+    choices: &mut [u16],
+    work: &mut [i64],
+) -> Replay {
+    let long = log.len() > limits::LOG;
+    let (rules, initial, limit) = match check_all(table, configuration, long, limit) {
+        Ok(all) => all,
+        Err(refusal) => return Replay::Refused(refusal),
+    };
+    let work_len = (log.len() + 1) * (2 * limit + 2);
+    if out.len() < 2 * limit || choices.len() < log.len() || work.len() < work_len {
+        return Replay::Refused(Refusal::ShortBuffer);
+    }
+    let frames = nodes_mut(&mut work[..work_len]);
+    let answer = search(&rules, initial, log, limit, frames);
+    if answer == Replay::Reproduced {
+        write_found(frames, limit, &mut choices[..log.len()], nodes_mut(out));
+    }
+    frames.fill([0, 0]);
+    answer
+}
+
+fn check_both<'a>(
+    table: &'a [i64],
+    configuration: &'a [i64],
+) -> Result<(Rules<'a>, &'a [Node]), Refusal> {
+    let rules = index(table).ok_or(Refusal::BadTable)?;
+    if is_configuration(configuration) {
+        Ok((rules, nodes(configuration)))
+    } else {
+        Err(Refusal::BadInitial)
+    }
+}
+
+/// The refusals 1 to 4 of a run and a replay, or what they start from.
+fn check_all<'a>(
+    table: &'a [i64],
+    configuration: &'a [i64],
+    too_long: bool,
+    limit: u64,
+) -> Result<(Rules<'a>, &'a [Node], usize), Refusal> {
+    let (rules, initial) = check_both(table, configuration)?;
+    if too_long {
+        return Err(Refusal::TooLong);
+    }
+    if limit < initial.len() as u64 || limit > limits::CONFIGURATION_NODES as u64 {
+        return Err(Refusal::BadLimit);
+    }
+    Ok((rules, initial, limit as usize))
+}
+
+/// Writes the successor by a rule that applies, if it fits.
+fn write_step(
+    rules: &Rules,
+    number: usize,
+    configuration: &[Node],
+    bindings: &Bindings,
+    out: &mut [i64],
+) -> Step {
+    let rule = &rules.rules[number];
+    let size = rules.size(rule, bindings);
+    if size > limits::CONFIGURATION_NODES.min(out.len() / 2) {
+        return Step::OverLimit;
+    }
+    rule.write(configuration, bindings, nodes_mut(out));
+    Step::Stepped {
+        rule: number as u8,
+        action: rule.action,
+        nodes: size as u32,
+    }
+}
+
+/// Runs between two buffers as long as the limit. Gives the answer, the steps and the size of the
+/// last configuration, which stands in `out` after an even number of steps, else in `spare`.
+fn run_between(
+    rules: &Rules,
+    initial: &[Node],
+    budget: u64,
+    out: &mut [Node],
+    spare: &mut [Node],
+) -> (Run, u64, usize) {
+    let mut bindings = Bindings::default();
+    let mut size = initial.len();
+    let mut steps = 0;
+    out[..size].copy_from_slice(initial);
+    let (mut from, mut to) = (out, spare);
+    loop {
+        let configuration = &from[..size];
+        let Some(number) = rules.first(configuration, &mut bindings) else {
+            return (Run::Stuck { steps }, steps, size);
+        };
+        if steps == budget {
+            return (Run::Spent { steps }, steps, size);
+        }
+        let rule = &rules.rules[number];
+        let successor = rules.size(rule, &bindings);
+        if successor > to.len() {
+            return (Run::OverLimit { steps }, steps, size);
+        }
+        rule.write(configuration, &bindings, &mut to[..successor]);
+        (from, to) = (to, from);
+        size = successor;
+        steps += 1;
+    }
+}
+
+/// Goes through the lists of rules in dictionary order. The stack is in `frames`: for each action
+/// a configuration in as many nodes as the limit, then one node with its size and the lowest rule
+/// that was not tried on it. If the log is reproduced, the stack is the path.
+fn search(
+    rules: &Rules,
+    initial: &[Node],
+    log: &[u16],
+    limit: usize,
+    frames: &mut [Node],
+) -> Replay {
+    let mut bindings = Bindings::default();
+    let mut over = false;
+    frames[..initial.len()].copy_from_slice(initial);
+    frames[limit] = [initial.len() as i64, 0];
+    let mut depth = 0;
+    while let Some(&action) = log.get(depth) {
+        let (frame, behind) = frames[depth * (limit + 1)..].split_at_mut(limit + 1);
+        let (configuration, state) = frame.split_at_mut(limit);
+        let configuration = &configuration[..state[0][0] as usize];
+        let from = state[0][1] as usize;
+        let Some(number) = rules.first_with(action, from, configuration, &mut bindings) else {
+            if depth == 0 {
+                return if over {
+                    Replay::OverLimit
+                } else {
+                    Replay::NotReproduced
+                };
+            }
+            depth -= 1;
+            continue;
+        };
+        state[0][1] = number as i64 + 1;
+        let rule = &rules.rules[number];
+        let size = rules.size(rule, &bindings);
+        if size > limit {
+            over = true;
+            continue;
+        }
+        rule.write(configuration, &bindings, &mut behind[..size]);
+        behind[limit] = [size as i64, 0];
+        depth += 1;
+    }
+    Replay::Reproduced
+}
+
+/// Writes the choices and the last configuration of a path.
+fn write_found(frames: &[Node], limit: usize, choices: &mut [u16], out: &mut [Node]) {
+    let mut path = frames.chunks_exact(limit + 1);
+    for (choice, frame) in choices.iter_mut().zip(&mut path) {
+        *choice = (frame[limit][1] - 1) as u16;
+    }
+    if let Some(last) = path.next() {
+        let size = last[limit][0] as usize;
+        out[..size].copy_from_slice(&last[..size]);
+    }
+}

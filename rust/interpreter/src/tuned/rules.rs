@@ -1,0 +1,238 @@
+//! The indexed table: matching, conditions and successors.
+
+use super::evaluate::Expressions;
+use super::{BOUND, CALL, LAST, Node, SYMBOL, VARIABLE, term_end};
+use crate::limits;
+use std::ops::Range;
+
+/// A rule of a well formed table.
+pub(super) struct Rule<'a> {
+    pub(super) action: u16,
+    /// Where the left is in [`Rules::lefts`].
+    pub(super) left: Range<usize>,
+    pub(super) right: &'a [Node],
+    pub(super) conditions: &'a [Node],
+    /// The nodes of a successor that come from no variable's part.
+    pub(super) fixed: usize,
+    /// Where [`Rules::copies`] lists the variables of the right that stand under no call.
+    pub(super) copies: Range<usize>,
+}
+
+/// An indexed table.
+pub(super) struct Rules<'a> {
+    pub(super) rules: Vec<Rule<'a>>,
+    /// The key of each left: most rules are passed over by it.
+    keys: Vec<u32>,
+    actions: Vec<u16>,
+    /// All lefts, copied: the tag of a variable says whether its place is the first.
+    pub(super) lefts: Vec<Node>,
+    pub(super) copies: Vec<u8>,
+}
+
+/// A left that begins with a variable.
+const ANY: u32 = 0;
+
+/// A configuration matches a left only if their keys are equal or the left's is [`ANY`].
+#[inline(always)]
+fn key([tag, datum]: Node) -> u32 {
+    match tag {
+        VARIABLE | LAST => ANY,
+        SYMBOL.. => (tag << 12 | datum) as u32,
+        _ => tag as u32 + 1,
+    }
+}
+
+/// Where each variable's part of the configuration starts and ends.
+#[derive(Default)]
+pub(super) struct Bindings {
+    starts: [usize; limits::VARIABLES],
+    ends: [usize; limits::VARIABLES],
+}
+
+impl Bindings {
+    #[inline(always)]
+    pub(super) fn start(&self, variable: i64) -> usize {
+        self.starts[variable as usize % limits::VARIABLES]
+    }
+
+    #[inline(always)]
+    fn end(&self, variable: i64) -> usize {
+        self.ends[variable as usize % limits::VARIABLES]
+    }
+
+    #[inline(always)]
+    pub(super) fn part<'a>(&self, variable: i64, configuration: &'a [Node]) -> &'a [Node] {
+        &configuration[self.start(variable)..self.end(variable)]
+    }
+
+    #[inline(always)]
+    fn set(&mut self, variable: i64, start: usize, end: usize) {
+        self.starts[variable as usize % limits::VARIABLES] = start;
+        self.ends[variable as usize % limits::VARIABLES] = end;
+    }
+
+    /// Matches an indexed left against the configuration in one walk.
+    #[inline(always)]
+    fn matches(&mut self, left: &[Node], configuration: &[Node]) -> bool {
+        let mut at = 0;
+        for &[tag, datum] in left {
+            match tag {
+                VARIABLE => {
+                    let end = term_end(configuration, at);
+                    self.set(datum, at, end);
+                    at = end;
+                }
+                LAST => self.set(datum, at, configuration.len()),
+                BOUND => {
+                    // No term's words begin another's, so equal words are an equal term.
+                    let part = self.part(datum, configuration);
+                    if !configuration[at..].starts_with(part) {
+                        return false;
+                    }
+                    at += part.len();
+                }
+                _ => {
+                    if configuration[at] != [tag, datum] {
+                        return false;
+                    }
+                    at += 1;
+                }
+            }
+        }
+        true
+    }
+}
+
+impl<'a> Rules<'a> {
+    pub(super) fn with_capacity(count: usize) -> Rules<'a> {
+        Rules {
+            rules: Vec::with_capacity(count),
+            keys: Vec::with_capacity(count),
+            actions: Vec::with_capacity(count),
+            lefts: Vec::with_capacity(4 * count),
+            copies: Vec::with_capacity(4 * count),
+        }
+    }
+
+    pub(super) fn push(&mut self, rule: Rule<'a>) {
+        self.keys.push(key(self.lefts[rule.left.start]));
+        self.actions.push(rule.action);
+        self.rules.push(rule);
+    }
+
+    /// Whether a rule's left matches and its conditions hold.
+    #[inline(always)]
+    pub(super) fn applies(
+        &self,
+        rule: &Rule,
+        configuration: &[Node],
+        bindings: &mut Bindings,
+    ) -> bool {
+        bindings.matches(&self.lefts[rule.left.clone()], configuration)
+            && conditions_hold(rule.conditions, configuration, bindings)
+    }
+
+    /// The lowest rule that applies; `bindings` says what its variables stand for.
+    #[inline(always)]
+    pub(super) fn first(&self, configuration: &[Node], bindings: &mut Bindings) -> Option<usize> {
+        let key = key(configuration[0]);
+        for (number, &left) in self.keys.iter().enumerate() {
+            if (left == key || left == ANY)
+                && self.applies(&self.rules[number], configuration, bindings)
+            {
+                return Some(number);
+            }
+        }
+        None
+    }
+
+    /// The lowest rule from this number on that carries the action and applies.
+    #[inline(always)]
+    pub(super) fn first_with(
+        &self,
+        action: u16,
+        from: usize,
+        configuration: &[Node],
+        bindings: &mut Bindings,
+    ) -> Option<usize> {
+        let mut number = from;
+        while let Some(skipped) = self.actions[number..].iter().position(|&a| a == action) {
+            number += skipped;
+            if self.applies(&self.rules[number], configuration, bindings) {
+                return Some(number);
+            }
+            number += 1;
+        }
+        None
+    }
+
+    /// The nodes of a successor, once the rule's variables are bound.
+    #[inline(always)]
+    pub(super) fn size(&self, rule: &Rule, bindings: &Bindings) -> usize {
+        let mut size = rule.fixed;
+        for &variable in &self.copies[rule.copies.clone()] {
+            size += bindings.end(variable as i64) - bindings.start(variable as i64);
+        }
+        size
+    }
+}
+
+impl Rule<'_> {
+    /// Writes the successor from the start of `out`, which has room for it.
+    #[inline(always)]
+    pub(super) fn write(&self, configuration: &[Node], bindings: &Bindings, out: &mut [Node]) {
+        let right = Expressions {
+            code: self.right,
+            configuration,
+            bindings,
+        };
+        let mut from = 0;
+        let mut to = 0;
+        while let Some(&[tag, datum]) = self.right.get(from) {
+            from += 1;
+            match tag {
+                VARIABLE => {
+                    let part = bindings.part(datum, configuration);
+                    copy(part, &mut out[to..to + part.len()]);
+                    to += part.len();
+                    continue;
+                }
+                CALL => {
+                    let (head, end) = right.call(datum, from);
+                    out[to] = [head.0, head.1];
+                    from = end;
+                }
+                _ => out[to] = [tag, datum],
+            }
+            to += 1;
+        }
+    }
+}
+
+/// Copies a part. Most are one node, for which a call of the system's copy is slow.
+#[inline(always)]
+fn copy(part: &[Node], out: &mut [Node]) {
+    if let ([from], [to]) = (part, &mut *out) {
+        *to = *from;
+    } else {
+        out.copy_from_slice(part);
+    }
+}
+
+#[inline(always)]
+fn conditions_hold(conditions: &[Node], configuration: &[Node], bindings: &Bindings) -> bool {
+    let sides = Expressions {
+        code: conditions,
+        configuration,
+        bindings,
+    };
+    let mut at = 0;
+    while at < conditions.len() {
+        let (holds, end) = sides.condition_holds(at);
+        if !holds {
+            return false;
+        }
+        at = end;
+    }
+    true
+}
