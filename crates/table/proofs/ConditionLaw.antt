@@ -1,6 +1,6 @@
 -- A right's and a condition's walk, by the flags of a left: what passes is what an accepted rule has there.
-use mathlib.Core.Path.{_≡_, refl, sym, _∙_, ap, subst, subst⁻¹}
-use mathlib.Core.Bool.{Bool, true, false, _&&_}
+use mathlib.Core.Path.{_≡_, refl, sym, _∙_, ap, subst⁻¹}
+use mathlib.Core.Bool.{Bool, _&&_}
 use mathlib.Core.Option.{Option, none, some, Option·none-ne-some, Option·some-injective}
 use mathlib.Core.List.{List, [], _∷_, _++_}
 use Prim.Native.Nat.{ℕ, zero, suc, _+_}
@@ -8,7 +8,7 @@ use native.Mathlib.Omega.{arith}
 use lib.Dec.{T, leb, le→leb}
 use lib.IntN.{ℤ}
 use lib.ListN.{length, drop, length-append}
-use Rattle.minuska.specs.Basics.{_>>=_, provided, every}
+use Rattle.minuska.specs.Basics.{_>>=_, every}
 use Rattle.minuska.specs.Term.{Term, single, nodeCount}
 use Rattle.minuska.specs.Word.{ok, encode}
 use Rattle.minuska.specs.Satisfaction.{SideCondition}
@@ -16,13 +16,11 @@ use Rattle.minuska.specs.Rule.{isExpression, covers, okTerm, okCondition, condi
 use Rattle.minuska.specs.Computed.Read.{readTerm, readConditions}
 use Rattle.minuska.proofs.Tests.{came, and-left, and-right, and-both, provided-some, provided-true}
 use Rattle.minuska.proofs.Good.{GoodTerm, GoodCondition, good-condition}
-use Rattle.minuska.proofs.SpanLaw.{read-term-iff}
 use Rattle.table.specs.declared.node.Level.{Level}
 use Rattle.table.specs.declared.node.Level.the-variants.{Expression}
 use Rattle.table.specs.Walk.{partEnd, partSeen}
 use Rattle.table.specs.Rule.{conditionsEnd}
-use Rattle.table.proofs.ScanLaw.{scan}
-use Rattle.table.proofs.PartLaw.{Part, part-found, part-missed}
+use Rattle.table.proofs.PartLaw.{part-found, part-missed}
 use Rattle.table.proofs.TestLaw.{Inner, shape, Knows, scan-tests}
 
 -- a term of a level, over the variables of a left, between two places

@@ -1,11 +1,11 @@
 -- The loop over a table's rules: what it has checked and written so far, and what it answers.
-use mathlib.Core.Path.{_≡_, refl, sym, _∙_, ap, subst, subst⁻¹}
-use mathlib.Core.Bool.{Bool, true, false, _&&_, cond, and-true, and-false}
+use mathlib.Core.Path.{_≡_, refl, sym, _∙_, ap}
+use mathlib.Core.Bool.{Bool, true, false, _&&_, cond, and-false}
 use mathlib.Core.Option.{Option, none, some, Option·some-injective}
 use mathlib.Core.List.{List, [], _∷_, _++_, append-assoc, append-nil}
 use Prim.Native.Nat.{ℕ, zero, suc, _+_, _-_, _*_, _≤_, _<_}
 use native.Mathlib.Omega.{arith}
-use lib.Dec.{T, leb}
+use lib.Dec.{leb}
 use lib.IntN.{ℤ, pos}
 use lib.ListN.{length, take, drop, getD, length-append, length-drop, take-append-drop, drop-of-length-le}
 use lib.Seq.{length-take-le, take-at, drop-at, drop-drop, sets, sets-eq, length-sets}
@@ -26,7 +26,7 @@ use Rattle.minuska.proofs.TableLaw.{read-table-iff}
 use Rattle.table.specs.Number.{naturalOf}
 use Rattle.table.specs.Rule.{RuleAt}
 use Rattle.table.specs.Index.{placesThen, placesRead, placesCounted, placesFound, IndexTableContract}
-use Rattle.table.proofs.OptionLaw.{none-after}
+use Rattle.table.proofs.BasicLaw.{none-after, never}
 use Rattle.table.proofs.NumberLaw.{below-not, below-yes}
 
 abbrev bad : Check
@@ -55,7 +55,7 @@ tableThen ws p = provided (isEmpty (p .1) && leb (suc (length ws)) 65536) (p .0)
 
 pub places-found : (ws : List ℤ) (t : Table) → readTable ws ≡ some t → placesFound ws ≡ places t
 unfolding readTable placesFound
-places-found [] t e = absurd (let z : _≡_ {A = ℕ} 0 1 = cc in let f : ⊥ = omega arith in f)
+places-found [] t e = absurd (never (cc))
 places-found (n ∷ ws) t e =
     let a = came (numberBelow 257 n) (λ k. readRules k ws >>= tableThen ws) t e in
     let b = came (readRules (a .0) ws) (tableThen ws) t (a .2) in
@@ -74,7 +74,7 @@ unfolding tableCheck
 index-contract ws old index r e f = record { answer = e; leaves = f; indexed = λ g. pick (readTable ws) refl (sym g ∙ e) }
   where
     pick : (o : Option Table) → readTable ws ≡ o → Good ≡ checked BadTable o → Indexed ws index
-    pick none q g = absurd (let z : _≡_ {A = ℕ} 0 1 = cc in let f : ⊥ = omega arith in f)
+    pick none q g = absurd (never (cc))
     pick (some t) q g =
         let p : index ≡ write (places t) old = f ∙ ap (λ (xs : List ℕ). write xs old) (places-found ws t q) in
         record { table = t; is = read-table-iff ws t .0 q; indexed = ap (take (4 * length t)) p ∙ take-at (places t) (drop (length (places t)) old) (4 * length t) (places-length 1 t) }

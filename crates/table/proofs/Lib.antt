@@ -1,4 +1,4 @@
-pub mod OptionLaw
+pub mod BasicLaw
 pub mod NumberLaw
 pub mod NodeLaw
 pub mod PendingLaw

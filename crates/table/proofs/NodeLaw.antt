@@ -23,6 +23,7 @@ use Rattle.table.specs.declared.node.Level.the-variants.{Expression}
 use Rattle.table.specs.declared.node.Below.the-variants as B
 use Rattle.table.specs.declared.node.Node.{Node}
 use Rattle.table.specs.declared.node.Node.the-variants as N
+use Rattle.table.proofs.BasicLaw.{never}
 use Rattle.table.proofs.NumberLaw.{natural-is}
 
 -- two words that are a node
@@ -41,7 +42,7 @@ unfolding childCountOf
 counted-read t d k e = pick (readNode t d) refl
   where
     pick : (o : Option (Label × ℕ)) → readNode t d ≡ o → Read t d k
-    pick none q = let h = rw q at e in absurd (let z : _≡_ {A = ℕ} 0 1 = cc in let f : ⊥ = omega arith in f)
+    pick none q = let h = rw q at e in absurd (never (cc))
     pick (some n) q = let h = rw q at e in let p : n .1 ≡ k = cc in subst (Read t d) p (node-read-as t d n q)
 
 -- ---- what `classify` answers
@@ -51,7 +52,7 @@ node-bad t d e = pick (readNode t d) refl
   where
     pick : (o : Option (Label × ℕ)) → readNode t d ≡ o → N.Bad ≡ nodeIn (readNode t d)
     pick none q = sym (ap nodeIn q)
-    pick (some n) q = let h = rw q at e in absurd (let z : _≡_ {A = ℕ} 0 1 = cc in let f : ⊥ = omega arith in f)
+    pick (some n) q = let h = rw q at e in absurd (never (cc))
 
 node-is : (t d : ℤ) (k : ℕ) (r : Read t d k) → nodeAs (role (r .label)) k ≡ nodeOf t d
 unfolding nodeOf
@@ -111,7 +112,7 @@ admits l t d seen n e = record { answer = ap (admitNode l seen) e; leaves = ap (
 module _ (l : Level) (seen : List Bool) (b : Level) (k : ℕ) where
   chosen : (c : Bool) (x : Level) (j : ℕ) → cond c (B.Are x j) B.Bad ≡ B.Are b k → j ≡ k
   chosen true x j e = let p : j ≡ k = cc in p
-  chosen false x j e = absurd (let z : _≡_ {A = ℕ} 0 1 = cc in let f : ⊥ = omega arith in f)
+  chosen false x j e = absurd (never (cc))
 
   count-is : (a : Label) (j : ℕ) → T (okHead a j) → admitNode l seen (nodeAs (role a) j) ≡ B.Are b k → j ≡ k
   count-is error j x e = let p : j ≡ k = cc in p
@@ -126,7 +127,7 @@ module _ (l : Level) (seen : List Bool) (b : Level) (k : ℕ) where
   admitted-read t d e = pick (readNode t d) refl e
     where
       pick : (o : Option (Label × ℕ)) → readNode t d ≡ o → admitNode l seen (nodeIn o) ≡ B.Are b k → Read t d k
-      pick none q h = absurd (let z : _≡_ {A = ℕ} 0 1 = cc in let f : ⊥ = omega arith in f)
+      pick none q h = absurd (never (cc))
       pick (some n) q h = subst (Read t d) (count-is (n .0) (n .1) (node-read t d n q .0) h) (node-read-as t d n q)
 
   pub admitted-seven : (t d : ℤ) → admitted l t d seen ≡ B.Are b k → k ≤ 7
@@ -138,13 +139,13 @@ unfolding nodeOf
 number-small t d v e = pick (readNode t d) refl e
   where
     at : (l : Label) (k : ℕ) → T (okHead l k) → N.Variable v ≡ nodeAs (role l) k → v < 16
-    at error k x h = absurd (let z : _≡_ {A = ℕ} 0 1 = cc in let f : ⊥ = omega arith in f)
-    at (truth b) k x h = absurd (let z : _≡_ {A = ℕ} 0 1 = cc in let f : ⊥ = omega arith in f)
-    at (whole z) k x h = absurd (let z : _≡_ {A = ℕ} 0 1 = cc in let f : ⊥ = omega arith in f)
+    at error k x h = absurd (never (cc))
+    at (truth b) k x h = absurd (never (cc))
+    at (whole z) k x h = absurd (never (cc))
     at (variable w) k x h = let p : v ≡ w = cc in let q = ltb→lt w 16 (and-left (ltb w 16) (eqb k 0) x) in omega arith
-    at (call c) k x h = absurd (let z : _≡_ {A = ℕ} 0 1 = cc in let f : ⊥ = omega arith in f)
-    at (symbol s) k x h = absurd (let z : _≡_ {A = ℕ} 0 1 = cc in let f : ⊥ = omega arith in f)
+    at (call c) k x h = absurd (never (cc))
+    at (symbol s) k x h = absurd (never (cc))
 
     pick : (o : Option (Label × ℕ)) → readNode t d ≡ o → N.Variable v ≡ nodeIn o → v < 16
-    pick none q h = absurd (let z : _≡_ {A = ℕ} 0 1 = cc in let f : ⊥ = omega arith in f)
+    pick none q h = absurd (never (cc))
     pick (some n) q h = at (n .0) (n .1) (node-read t d n q .0) h

@@ -1,10 +1,10 @@
 -- Words as numbers: a word that was passed on is read back from its bits; the number that it is; a test of its range.
-use mathlib.Core.Path.{_≡_, refl, sym, _∙_, ap, ap₂, subst₂}
+use mathlib.Core.Path.{_≡_, refl, _∙_, ap, ap₂, subst₂}
 use mathlib.Core.Bool.{Bool, true, false, true≢false}
 use mathlib.Core.Option.{none, some}
 use Prim.Native.Nat.{ℕ, _≤_, _<_, _^_}
 use native.Mathlib.Omega.{arith}
-use lib.Dec.{T, ltb, lt→ltb, ltb→lt}
+use lib.Dec.{T}
 use lib.IntN.{ℤ, pos, negsuc, natAbs}
 use lib.Signed.{ltZ, nonNeg}
 use mir.Facts.{toZ-ofZ}

@@ -1,18 +1,18 @@
 -- A term walked is a term read: `part_end` finds the place behind a term exactly if the words there are one that passes.
 use mathlib.Core.Path.{_≡_, refl, sym, _∙_, ap, subst}
-use mathlib.Core.Bool.{Bool, true, false}
+use mathlib.Core.Bool.{Bool}
 use mathlib.Core.Option.{Option, none, some, Option·none-ne-some, Option·some-injective}
 use mathlib.Core.List.{List, [], _∷_, _++_}
-use Prim.Native.Nat.{ℕ, zero, suc, _+_, _-_, _≤_}
+use Prim.Native.Nat.{ℕ, suc, _+_, _-_, _≤_}
 use native.Mathlib.Omega.{arith}
 use lib.Dec.{T, leb, leb→le, le→leb}
 use lib.IntN.{ℤ}
 use lib.ListN.{length, drop, replicate, length-append, length-replicate}
 use lib.Seq.{drop-append-seam, drop-drop}
 use Rattle.minuska.specs.Basics.{_>>=_, provided}
-use Rattle.minuska.specs.Term.{Label, Term, single, nodes, nodeCount}
+use Rattle.minuska.specs.Term.{Label, Term, single, nodeCount}
 use Rattle.minuska.specs.Word.{ok, encode}
-use Rattle.minuska.specs.Computed.Read.{readNode, spanTerms, readTerm}
+use Rattle.minuska.specs.Computed.Read.{spanTerms, readTerm}
 use Rattle.minuska.proofs.Tests.{came, provided-some, provided-true}
 use Rattle.minuska.proofs.WordLaw.{encode-length}
 use Rattle.minuska.proofs.SpanLaw.{read-term-iff}
@@ -23,6 +23,7 @@ use Rattle.table.specs.declared.node.Below.{Below}
 use Rattle.table.specs.declared.node.Below.the-variants as B
 use Rattle.table.specs.Node.{admitted, seenAfter}
 use Rattle.table.specs.Walk.{Walked, onward, walk, within, placed, partWalk, partEnd, partSeen}
+use Rattle.table.proofs.BasicLaw.{never}
 use Rattle.table.proofs.NodeLaw.{admitted-read}
 use Rattle.table.proofs.ScanLaw.{scan, found, walk-encode}
 
@@ -96,12 +97,12 @@ twice t = let e = encode-length (single t) in omega arith
 
 -- an answer at a place, and nowhere
 pub placed-at : (e : ℕ) (o : Option ℕ) → P.At e ≡ placed o → o ≡ some e
-placed-at e none h = absurd (let z : _≡_ {A = ℕ} 0 1 = cc in let f : ⊥ = omega arith in f)
+placed-at e none h = absurd (never (cc))
 placed-at e (some n) h = let p : n ≡ e = cc in ap {B = Option ℕ} some p
 
 pub placed-nowhere : (o : Option ℕ) → P.Nowhere ≡ placed o → o ≡ none
 placed-nowhere none h = refl
-placed-nowhere (some n) h = absurd (let z : _≡_ {A = ℕ} 0 1 = cc in let f : ⊥ = omega arith in f)
+placed-nowhere (some n) h = absurd (never (cc))
 
 within-some : (at e : ℕ) (o : Option ℕ) → within at o ≡ some e → (o ≡ some e) × (e - at ≤ 1024)
 within-some at e o h =

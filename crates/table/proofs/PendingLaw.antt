@@ -1,6 +1,6 @@
 -- The nodes still to come, counted: the next level, one node less, its children more.
 use mathlib.Core.Path.{_≡_, refl, sym, _∙_, ap, subst, subst⁻¹}
-use mathlib.Core.Bool.{Bool, true, false, false≢true}
+use mathlib.Core.Bool.{true, false≢true}
 use mathlib.Core.Logic.{_⊎_, inl, inr}
 use mathlib.Core.List.{List, [], _∷_, _++_, append-assoc}
 use Prim.Native.Nat.{ℕ, zero, suc, _+_, _-_, _<_}
@@ -12,6 +12,7 @@ use Rattle.table.specs.declared.walk.Pending.{Pending}
 use Rattle.table.specs.declared.walk.Next.the-variants as X
 use Rattle.table.specs.Node.{takesCall}
 use Rattle.table.specs.Walk.{levels, nextIn, nextOf, counts, popIn, popped, pushed, pending}
+use Rattle.table.proofs.BasicLaw.{never}
 
 -- ---- what `next_level` and `pop` answer
 module _ (kind : Level) (p : Pending) where
@@ -128,7 +129,7 @@ module _ (kind : Level) (b : Level) (k : ℕ) where
   turned-in (suc g) i o l e h = let p : Ground ≡ l = cc in subst (λ (x : Level). Deeper x b → Turned kind (counts (suc g) i o) x b k) p (in-ground g i o) h
   turned-in zero (suc i) o l e h = let p : Expression ≡ l = cc in subst (λ (x : Level). Deeper x b → Turned kind (counts zero (suc i) o) x b k) p (in-inner i o) h
   turned-in zero zero (suc o) l e h = let p : kind ≡ l = cc in subst (λ (x : Level). Deeper x b → Turned kind (counts zero zero (suc o)) x b k) p (in-outer o) h
-  turned-in zero zero zero l e h = absurd (let z : _≡_ {A = ℕ} 0 1 = cc in let f : ⊥ = omega arith in f)
+  turned-in zero zero zero l e h = absurd (never (cc))
 
   pub turned : (p : Pending) (l : Level) → nextOf kind p ≡ X.At l → Deeper l b → Turned kind p l b k
   unfolding nextOf
@@ -136,9 +137,9 @@ module _ (kind : Level) (b : Level) (k : ℕ) where
 
 -- nothing is left
 done-in : (kind : Level) (g i o : ℕ) → nextIn kind g i o ≡ X.Done → levels kind (counts g i o) ≡ []
-done-in kind (suc g) i o e = absurd (let z : _≡_ {A = ℕ} 0 1 = cc in let f : ⊥ = omega arith in f)
-done-in kind zero (suc i) o e = absurd (let z : _≡_ {A = ℕ} 0 1 = cc in let f : ⊥ = omega arith in f)
-done-in kind zero zero (suc o) e = absurd (let z : _≡_ {A = ℕ} 0 1 = cc in let f : ⊥ = omega arith in f)
+done-in kind (suc g) i o e = absurd (never (cc))
+done-in kind zero (suc i) o e = absurd (never (cc))
+done-in kind zero zero (suc o) e = absurd (never (cc))
 done-in kind zero zero zero e = refl
 
 pub done : (kind : Level) (p : Pending) → nextOf kind p ≡ X.Done → levels kind p ≡ []
@@ -154,7 +155,7 @@ pop-count kind p l e = at (p .ground) (p .inner) (p .outer) e
     at (suc g) i o q = omega arith
     at zero (suc i) o q = omega arith
     at zero zero (suc o) q = omega arith
-    at zero zero zero q = absurd (let z : _≡_ {A = ℕ} 0 1 = cc in let f : ⊥ = omega arith in f)
+    at zero zero zero q = absurd (never (cc))
 
 pub push-count : (p : Pending) (b : Level) (k : ℕ) → pending (pushed p b k) ≡ pending p + k
 unfolding pushed

@@ -1,9 +1,9 @@
 -- The parts that `rule_parts` finds are those of the rule that is read there.
-use mathlib.Core.Path.{_≡_, refl, sym, _∙_, ap, subst, subst⁻¹}
-use mathlib.Core.Bool.{Bool, true, false, _&&_}
-use mathlib.Core.Option.{Option, none, some, Option·none-ne-some, Option·some-injective}
-use mathlib.Core.List.{List, [], _∷_, _++_}
-use Prim.Native.Nat.{ℕ, zero, suc, _+_, _≤_, _<_}
+use mathlib.Core.Path.{_≡_, refl, sym, _∙_, ap, subst}
+use mathlib.Core.Bool.{Bool, false, _&&_}
+use mathlib.Core.Option.{Option, none, some}
+use mathlib.Core.List.{List, [], _∷_}
+use Prim.Native.Nat.{ℕ, _+_, _≤_, _<_}
 use native.Mathlib.Omega.{arith}
 use lib.Dec.{T, leb, ltb, le→leb, lt→ltb}
 use lib.IntN.{ℤ, pos}
@@ -12,23 +12,21 @@ use Rattle.minuska.specs.Basics.{_>>=_, provided, every}
 use Rattle.minuska.specs.Term.{Term, single, nodeCount}
 use Rattle.minuska.specs.Word.{ok, encode}
 use Rattle.minuska.specs.Satisfaction.{SideCondition}
-use Rattle.minuska.specs.Rule.{Rule, isSymbolic, isExpressionTerm, covers, okTerm, okCondition, okRule, conditionWords}
+use Rattle.minuska.specs.Rule.{Rule, isSymbolic, isExpressionTerm, covers, okTerm, okCondition, okRule}
 use Rattle.minuska.specs.Computed.Read.{numberBelow, readTerm, readConditions, readRule}
 use Rattle.minuska.proofs.Tests.{and-both, provided-some, provided-true}
-use Rattle.minuska.proofs.Good.{Good, good, GoodTerm}
-use Rattle.table.specs.declared.node.Level.{Level}
-use Rattle.table.specs.declared.node.Level.the-variants.{Left, Right, Expression}
+use Rattle.minuska.proofs.Good.{good}
+use Rattle.table.specs.declared.node.Level.the-variants.{Left, Right}
 use Rattle.table.specs.Number.{naturalOf}
 use Rattle.table.specs.Walk.{partEnd, partSeen}
 use Rattle.table.specs.Rule.{conditionsEnd, RuleAt}
 use Rattle.minuska.specs.Computed.Place.{rulePlaces}
-use Rattle.table.proofs.OptionLaw.{none-after, refused}
+use Rattle.table.proofs.BasicLaw.{none-after, refused}
 use Rattle.table.proofs.NumberLaw.{below-not, below-yes}
 use Rattle.table.proofs.TurnLaw.{two-words}
-use Rattle.table.proofs.PartLaw.{Part, part-found, part-missed}
-use Rattle.table.proofs.ScanLaw.{scan}
+use Rattle.table.proofs.PartLaw.{part-found, part-missed}
 use Rattle.table.proofs.TestLaw.{Knows, marks, scan-left, knows-left}
-use Rattle.table.proofs.ConditionLaw.{Passed, passed, not-passed, Conditions, conditions-found, conditions-missed}
+use Rattle.table.proofs.ConditionLaw.{Passed, passed, not-passed, conditions-found, conditions-missed}
 
 -- ---- what is read after a rule's numbers, its left, its right
 abbrev ruleOf : ℕ → Term → Term → List SideCondition → Rule

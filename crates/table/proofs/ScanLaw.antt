@@ -2,21 +2,20 @@
 use mathlib.Core.Path.{_≡_, refl, sym, _∙_, ap}
 use mathlib.Core.Bool.{Bool, true, false, cond}
 use mathlib.Core.Option.{Option, none, some}
-use mathlib.Core.List.{List, [], _∷_, _++_, append-assoc}
-use Prim.Native.Nat.{ℕ, zero, suc, _+_}
+use mathlib.Core.List.{List, _++_, append-assoc}
+use Prim.Native.Nat.{ℕ, _+_}
 use native.Mathlib.Omega.{arith}
 use native.Mathlib.Nat.{add-zero}
 use lib.Dec.{T, eqb, ltb, eqb→eq}
 use lib.IntN.{ℤ}
 use lib.ListN.{length, getD, replicate, length-append}
 use Rattle.minuska.specs.Basics.{_>>=_, provided}
-use Rattle.minuska.specs.Term.{Label, error, truth, whole, variable, call, symbol, Forest, nil, node, Term, single, termCount, Role, aVariable, aCall, plain, role}
+use Rattle.minuska.specs.Term.{Label, error, truth, whole, variable, call, symbol, Forest, nil, node, termCount, Role, aVariable, aCall, plain, role}
 use Rattle.minuska.specs.Word.{okHead, ok, encode, tagWord, datumWord}
-use Rattle.minuska.specs.Computed.Read.{readNode}
 use Rattle.minuska.proofs.Tests.{and-right}
 use Rattle.minuska.proofs.WordLaw.{okay, head-okay, read-node}
 use Rattle.table.specs.declared.node.Level.{Level}
-use Rattle.table.specs.declared.node.Level.the-variants.{Left, Right, Expression, Ground}
+use Rattle.table.specs.declared.node.Level.the-variants.{Expression}
 use Rattle.table.specs.declared.node.Below.{Below}
 use Rattle.table.specs.declared.node.Below.the-variants as B
 use Rattle.table.specs.Node.{takesCall, takesVariable, underPlain, flags, nodeAs, nodeIn, nodeOf, admitNode, flagNode, admitted, seenAfter}

@@ -1,18 +1,17 @@
 -- One turn of the loop over a rule's conditions.
-use mathlib.Core.Path.{_≡_, refl, sym, _∙_, ap, subst}
+use mathlib.Core.Path.{_≡_, sym, _∙_, ap}
 use mathlib.Core.Bool.{Bool}
 use mathlib.Core.Option.{Option, none, some}
 use mathlib.Core.List.{List}
-use Prim.Native.Nat.{ℕ, zero, suc, _-_, _<_}
+use Prim.Native.Nat.{ℕ, suc, _-_, _<_}
 use native.Mathlib.Omega.{arith}
 use lib.IntN.{ℤ}
 use Rattle.minuska.specs.Basics.{_>>=_}
 use Rattle.term.specs.declared.Place.{Place}
 use Rattle.term.specs.declared.Place.the-variants as P
-use Rattle.table.specs.declared.node.Level.{Level}
 use Rattle.table.specs.declared.node.Level.the-variants.{Expression}
-use Rattle.table.specs.Walk.{placed, partEnd, PartContract}
-use Rattle.table.specs.Rule.{conditionsEnd, ConditionsContract}
+use Rattle.table.specs.Walk.{partEnd, PartContract}
+use Rattle.table.specs.Rule.{conditionsEnd}
 use Rattle.table.proofs.PartLaw.{placed-at, placed-nowhere}
 use Rattle.table.proofs.KeepLaw.{part-keeps}
 

@@ -1,9 +1,9 @@
 -- The walk over a term makes the tests that an accepted rule passes.
-use mathlib.Core.Path.{_≡_, refl, sym, _∙_, ap, subst⁻¹}
+use mathlib.Core.Path.{_≡_, refl, sym, _∙_, ap}
 use mathlib.Core.Bool.{Bool, true, false, _&&_, _||_, or-false}
 use mathlib.Core.Option.{Option, none, some}
 use mathlib.Core.List.{List}
-use Prim.Native.Nat.{ℕ, zero, suc, _<_}
+use Prim.Native.Nat.{ℕ, _<_}
 use native.Mathlib.Omega.{arith}
 use lib.Dec.{T, eqb, ltb, eqb→eq, ltb→lt}
 use lib.ListN.{length, getD, set, replicate, length-set, getD-replicate}
@@ -17,7 +17,6 @@ use Rattle.minuska.proofs.Tests.{and-left, and-right}
 use Rattle.minuska.proofs.WordLaw.{okay}
 use Rattle.table.specs.declared.node.Level.{Level}
 use Rattle.table.specs.declared.node.Level.the-variants.{Left, Right, Expression, Ground}
-use Rattle.table.specs.Node.{takesCall, takesVariable, underPlain, flags}
 use Rattle.table.proofs.ScanLaw.{passes, below, flagged, scan}
 
 -- ---- tests one after another

@@ -1,21 +1,16 @@
 -- One turn of the walk over a term's words.
 use mathlib.Core.Path.{_≡_, refl, sym, _∙_, ap, subst}
 use mathlib.Core.Bool.{Bool, true, false, cond}
-use mathlib.Core.Logic.{_⊎_, inl, inr}
+use mathlib.Core.Logic.{inl, inr}
 use mathlib.Core.Option.{Option, none, some}
-use mathlib.Core.List.{List, [], _∷_, _++_}
-use Prim.Native.Nat.{ℕ, zero, suc, _+_, _-_, _≤_, _<_}
+use mathlib.Core.List.{List, [], _∷_}
+use Prim.Native.Nat.{ℕ, suc, _+_, _-_, _≤_, _<_}
 use native.Mathlib.Omega.{arith}
-use lib.Dec.{T}
 use lib.IntN.{ℤ, pos}
-use lib.ListN.{length, drop, getD, replicate, length-drop}
+use lib.ListN.{length, drop, getD, length-drop}
 use lib.Seq.{drop-cons}
 use borrow.Author.Tests.{le-leb, lt-leb}
 use Rattle.minuska.specs.Basics.{provided}
-use Rattle.minuska.specs.Term.{Label, Role, aVariable, aCall, plain, role}
-use Rattle.minuska.specs.Computed.Read.{readNode}
-use Rattle.term.specs.TermEnd.{childCountOf}
-use Rattle.term.specs.declared.Count.the-variants as C
 use Rattle.term.specs.declared.Place.the-variants as P
 use Rattle.table.specs.declared.node.Level.{Level}
 use Rattle.table.specs.declared.node.Level.the-variants.{Left, Right, Expression, Ground}
@@ -27,8 +22,9 @@ use Rattle.table.specs.declared.walk.Pending.{Pending}
 use Rattle.table.specs.declared.walk.Next.the-variants as X
 use Rattle.table.specs.Node.{nodeOf, takesCall, takesVariable, underPlain, admitNode, admitted, seenAfter, Admits}
 use Rattle.table.specs.Walk.{Walked, onward, walk, within, placed, partWalk, PartContract, levels, nextOf, popped, pushed}
+use Rattle.table.proofs.BasicLaw.{never}
 use Rattle.table.proofs.NodeLaw.{admitted-seven}
-use Rattle.table.proofs.PendingLaw.{Deeper, Turned, turned, done}
+use Rattle.table.proofs.PendingLaw.{Deeper, turned, done}
 
 -- ---- the children's level is the node's or a deeper one
 under-deeper : (l : Level) → Deeper l (underPlain l)
@@ -43,17 +39,17 @@ admitted-deeper l t d s b k = at (nodeOf t d)
   where
     call : (c : Bool) (j : ℕ) → takesCall l ≡ c → cond c (B.Are Expression j) B.Bad ≡ B.Are b k → Deeper l b
     call true j q e = inr (inr (let p : b ≡ Expression = cc in p, q))
-    call false j q e = absurd (let z : _≡_ {A = ℕ} 0 1 = cc in let f : ⊥ = omega arith in f)
+    call false j q e = absurd (never (cc))
 
     same : (c : Bool) → cond c (B.Are l 0) B.Bad ≡ B.Are b k → Deeper l b
     same true e = inl (let p : b ≡ l = cc in p)
-    same false e = absurd (let z : _≡_ {A = ℕ} 0 1 = cc in let f : ⊥ = omega arith in f)
+    same false e = absurd (never (cc))
 
     at : (n : Node) → admitNode l s n ≡ B.Are b k → Deeper l b
     at (N.Plain j) e = let p : underPlain l ≡ b = cc in subst (Deeper l) p (under-deeper l)
     at (N.Call j) e = call (takesCall l) j refl e
     at (N.Variable v) e = same (takesVariable l (getD s v false)) e
-    at N.Bad e = absurd (let z : _≡_ {A = ℕ} 0 1 = cc in let f : ⊥ = omega arith in f)
+    at N.Bad e = absurd (never (cc))
 
 -- ---- the words at a place
 pub two-words : (s : List ℤ) (i : ℕ) → i + 2 ≤ length s → drop i s ≡ getD s i (pos 0) ∷ getD s (i + 1) (pos 0) ∷ drop (i + 2) s

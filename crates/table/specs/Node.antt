@@ -15,6 +15,7 @@ use Rattle.table.specs.declared.node.Node.the-variants as N
 use Rattle.table.specs.declared.node.Below.{Below}
 use Rattle.table.specs.declared.node.Below.the-variants as B
 
+-- what two words are, if they are a node in range
 abbrev pub nodeAs : Role → ℕ → Node
 nodeAs (aVariable v) k = N.Variable v
 nodeAs (aCall c) k = N.Call k
@@ -27,13 +28,14 @@ nodeIn (some n) = nodeAs (role (n .0)) (n .1)
 unfoldable pub nodeOf : ℤ → ℤ → Node
 nodeOf t d = nodeIn (readNode t d)
 
--- "A left has no call." In an expression "a symbol .. has no variable or call below it".
+-- "A left has no call."
 abbrev pub takesCall : Level → Bool
 takesCall Left = false
 takesCall Right = true
 takesCall Expression = true
 takesCall Ground = false
 
+-- "A symbol under a call, or in a condition, has no variable or call below it."
 abbrev pub underPlain : Level → Level
 underPlain Left = Left
 underPlain Right = Right

@@ -1,6 +1,6 @@
 -- The walk over a term's words: the levels of the nodes still to come, the first first.
 use mathlib.Core.Path.{_≡_}
-use mathlib.Core.Bool.{Bool, true, false, cond}
+use mathlib.Core.Bool.{Bool}
 use mathlib.Core.Option.{Option, none, some}
 use mathlib.Core.List.{List, [], _∷_, _++_}
 use Prim.Native.Nat.{ℕ, zero, suc, _+_, _-_}
@@ -24,6 +24,7 @@ pub record Walked : Type 0 where
   pub end : Option ℕ
   pub seen : List Bool
 
+-- a node that passes has its children come next
 abbrev pub onward : Below → List Level → List Bool → (List Level → List Bool → Walked) → Walked
 onward B.Bad ls seen go = record { end = none; seen = seen }
 onward (B.Are l k) ls seen go = go (replicate k l ++ ls) seen
@@ -44,6 +45,7 @@ abbrev pub placed : Option ℕ → Place
 placed none = P.Nowhere
 placed (some e) = P.At e
 
+-- one term of a kind, from a place on: the place behind it, and the flags afterwards
 unfoldable pub partWalk : List ℤ → ℕ → Level → List Bool → Walked
 partWalk ws at kind seen = walk (drop at ws) at (kind ∷ []) seen
 
@@ -61,6 +63,7 @@ pub record PartContract (ws : List ℤ) (at : ℕ) (kind : Level) (seen seen′ 
 abbrev pub levels : Level → Pending → List Level
 levels kind p = replicate (p .ground) Ground ++ (replicate (p .inner) Expression ++ replicate (p .outer) kind)
 
+-- the next level; one node less; its children more; how many in all
 abbrev pub nextIn : Level → ℕ → ℕ → ℕ → Next
 nextIn kind (suc g) i o = X.At Ground
 nextIn kind zero (suc i) o = X.At Expression

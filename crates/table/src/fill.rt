@@ -1,6 +1,5 @@
 // The table's check, in one pass that fills the index.
 use crate::number::natural;
-use crate::number::word;
 use crate::rule::Parts;
 use crate::rule::rule_parts;
 use minuska::Check;
@@ -24,6 +23,7 @@ fn put(index: &mut [usize], rule: usize, at: usize, right: usize, conditions: us
     index[i + 3] = end;
 }
 
+// The check. A rule's numbers are written once it is accepted.
 pub fn fill(table: &[i64], index: &mut [usize]) -> Check
     requires { ⌜ 1024 ≤ length (now index) ⌝ }
     ensures { λ r. ⌜ IndexTableContract (now (table .entry)) (now (index .entry)) (now (index .exit)) r ⌝ }
@@ -35,7 +35,7 @@ pub fn fill(table: &[i64], index: &mut [usize]) -> Check
     if 65536 < n {
         return Check::Refused(Refusal::BadTable);
     }
-    let count = natural(word(table, 0));
+    let count = natural(term::word(table, 0));
     if 256 < count {
         return Check::Refused(Refusal::BadTable);
     }

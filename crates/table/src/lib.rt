@@ -7,7 +7,6 @@ mod walk;
 
 use crate::fill::fill;
 use crate::number::natural;
-use crate::number::word;
 use minuska::Check;
 ghost use Rattle.minuska.specs.Contract.{CheckTableContract};
 ghost use Rattle.minuska.specs.Computed.Place.{Indexed, RuleCountIs, ActionIs, OrderedIs};
@@ -21,7 +20,7 @@ pub fn check_table(table: &[i64]) -> Check
     index_table(table, &mut index)
 }
 
-// The same, and the index: four numbers a rule.
+// The same, and the index: four numbers a rule, its start, its right, its conditions and its end.
 pub fn index_table(table: &[i64], index: &mut [usize; 1024]) -> Check
     ensures { λ r. ⌜ IndexTableContract (now (table .entry)) (now (index .entry)) (now (index .exit)) r ⌝ }
 {
@@ -33,7 +32,7 @@ pub fn rule_count(table: &[i64], index: &[usize; 1024]) -> usize
     requires { ⌜ Indexed (now table) (now index) ⌝ }
     ensures { λ r. ⌜ RuleCountIs (now (table .entry)) r ⌝ }
 {
-    natural(word(table, 0))
+    natural(term::word(table, 0))
 }
 
 // The action of a checked table's rule; 0 of a number that names none.
@@ -45,7 +44,7 @@ pub fn action(table: &[i64], index: &[usize; 1024], rule: usize) -> u16
         return 0;
     }
     let at = index[4 * rule];
-    natural(word(table, at)) as u16
+    natural(term::word(table, at)) as u16
 }
 
 // The rule at a position of the order in which rules are tried.

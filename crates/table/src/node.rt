@@ -56,6 +56,7 @@ fn under_plain(level: Level) -> Level
     }
 }
 
+// "A left has no call", and a ground term has none.
 fn takes_call(level: Level) -> bool
     ensures { λ r. ⌜ r ≡ takesCall level ⌝ }
 {

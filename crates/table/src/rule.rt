@@ -1,7 +1,6 @@
 // One rule of a table: where its parts stand, if it is accepted.
 use crate::node::Level;
 use crate::number::natural;
-use crate::number::word;
 use crate::walk::part_end;
 use term::Place;
 ghost use Rattle.table.specs.Rule.{ConditionsContract, RuleIs};
@@ -42,10 +41,10 @@ pub fn rule_parts(table: &[i64], at: usize) -> Parts
     if n - 2 < at {
         return Parts::Nowhere;
     }
-    if 65535 < natural(word(table, at)) {
+    if 65535 < natural(term::word(table, at)) {
         return Parts::Nowhere;
     }
-    let count = natural(word(table, at + 1));
+    let count = natural(term::word(table, at + 1));
     if 8 < count {
         return Parts::Nowhere;
     }

@@ -2,13 +2,12 @@
 use crate::node::Below;
 use crate::node::Level;
 use crate::node::admit;
-use crate::number::word;
 use term::Place;
 ghost use mathlib.Core.Path.{_≡_};
 ghost use Prim.Native.Nat.{_+_, _^_, _<_};
 ghost use Rattle.table.specs.Walk.{nextOf, pending, popped, pushed, PartContract};
 
-// The nodes still to come: at the place's own level, in expressions below it, in ground terms below these. The last come first.
+// How many nodes are still to come: of the place's own level, of expressions below it, of ground terms below these.
 pub struct Pending {
     pub outer: usize,
     pub inner: usize,
@@ -21,6 +20,7 @@ pub enum Next {
     Done,
 }
 
+// Ground nodes come first, then those of expressions.
 fn next_level(kind: Level, p: Pending) -> Next
     ensures { λ r. ⌜ r ≡ nextOf kind p ⌝ }
 {
@@ -112,8 +112,8 @@ pub fn part_end(table: &[i64], at: usize, kind: Level, seen: &mut [bool; 16]) ->
         if n - i < 2 {
             return Place::Nowhere;
         }
-        let t = word(table, i);
-        let d = word(table, i + 1);
+        let t = term::word(table, i);
+        let d = term::word(table, i + 1);
         let Below::Are(below, k) = admit(level, t, d, seen) else {
             return Place::Nowhere;
         };

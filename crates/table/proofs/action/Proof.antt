@@ -12,11 +12,6 @@ use Rattle.table.proofs.NumberLaw.{via}
 use Rattle.table.proofs.IndexLaw.{no-rule, number-small, start-inside, action-low, action-is}
 use Rattle.table.proofs.action.Statement.{statement}
 use Rattle.table.proofs.action.Tie as tie
-use Rattle.table.proofs.action.Reads as reads
-use Rattle.table.proofs.action.Lts as lts
-use Rattle.table.proofs.number.natural.Reads as natural-reads
-use Rattle.table.proofs.number.word.Reads as word-reads
-use Rattle.table.proofs.rule_count.Reads as rule-count-reads
 
 small : (c : tie.Else1) → c .before .before .args .rule < 256
 small c = number-small (c .before .before .args .table .now) (c .before .before .args .index .now) (c .before .before .pre) (c .before .rule-count .result) (c .before .rule-count .ensures) (c .before .before .args .rule) (c .if1 .left)
@@ -24,39 +19,30 @@ small c = number-small (c .before .before .args .table .now) (c .before .before 
 number-is : (c : tie.After-natural) → c .natural .result ≡ naturalOf (getD (c .before .before .before .before .before .args .table .now) (getD (c .before .before .before .before .before .args .index .now) (4 * c .before .before .before .before .before .args .rule) 0) (pos 0))
 number-is c = let f : SFits w64 (c .before .word .result) = search needs in via naturalOf f (c .natural .ensures) ∙ ap naturalOf (c .before .word .ensures)
 
--- src/lib.rt:86:8
 rule-count-requires : tie.Need-rule-count-requires
 rule-count-requires c κs = search needs
 
--- src/lib.rt:87:9
 returns : tie.Need-returns
 returns c = no-rule (c .before .before .args .table .now) (c .before .before .args .index .now) (c .before .before .pre) (c .before .rule-count .result) (c .before .rule-count .ensures) (c .before .before .args .rule) (c .if1 .taken)
 
--- src/lib.rt:89:20
 mul-at : tie.Need-mul-at
 mul-at c = let h = small c in omega arith
 
--- src/lib.rt:89:14
 mul-at-2 : tie.Need-mul-at-2
 mul-at-2 c = let h = small c in omega arith
 
--- src/lib.rt:89:14
 element-copy-out-at : tie.Need-element-copy-out-at
 element-copy-out-at c = let h = small c in omega arith
 
--- src/lib.rt:90:13
 word-requires : tie.Need-word-requires
 word-requires c κs = start-inside (c .before .before .before .args .table .now) (c .before .before .before .args .index .now) (c .before .before .before .pre) (c .before .before .rule-count .result) (c .before .before .rule-count .ensures) (c .before .before .before .args .rule) (c .before .if1 .left)
 
--- src/lib.rt:90:5
 natural-requires : tie.Need-natural-requires
 natural-requires c κs = search needs
 
--- src/lib.rt:90:5
 cast-result : tie.Need-cast-result
 cast-result c = let e = number-is c in let h = action-low (c .before .before .before .before .before .args .table .now) (c .before .before .before .before .before .args .index .now) (c .before .before .before .before .before .pre) (c .before .before .before .before .rule-count .result) (c .before .before .before .before .rule-count .ensures) (c .before .before .before .before .before .args .rule) (c .before .before .before .if1 .left) in omega arith
 
--- src/lib.rt:82:1
 returns-2 : tie.Need-returns-2
 returns-2 c = subst⁻¹ (ActionIs (c .before .before .before .before .before .args .table .now) (c .before .before .before .before .before .args .rule)) (number-is c) (action-is (c .before .before .before .before .before .args .table .now) (c .before .before .before .before .before .args .index .now) (c .before .before .before .before .before .pre) (c .before .before .before .before .rule-count .result) (c .before .before .before .before .rule-count .ensures) (c .before .before .before .before .before .args .rule) (c .before .before .before .if1 .left))
 

@@ -1,10 +1,7 @@
 use Rattle.table.proofs.IndexLaw.{ordered-is}
 use Rattle.table.proofs.ordered.Statement.{statement}
 use Rattle.table.proofs.ordered.Tie as tie
-use Rattle.table.proofs.ordered.Reads as reads
-use Rattle.table.proofs.ordered.Lts as lts
 
--- src/lib.rt:94:1
 returns : tie.Need-returns
 returns c = ordered-is (c .args .table .now) (c .args .position)
 

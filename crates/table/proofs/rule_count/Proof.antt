@@ -7,20 +7,13 @@ use Rattle.table.proofs.NumberLaw.{via}
 use Rattle.table.proofs.IndexLaw.{some-words, rule-count-is}
 use Rattle.table.proofs.rule_count.Statement.{statement}
 use Rattle.table.proofs.rule_count.Tie as tie
-use Rattle.table.proofs.rule_count.Reads as reads
-use Rattle.table.proofs.rule_count.Lts as lts
-use Rattle.table.proofs.number.natural.Reads as natural-reads
-use Rattle.table.proofs.number.word.Reads as word-reads
 
--- src/lib.rt:78:13
 word-requires : tie.Need-word-requires
 word-requires c κs = some-words (c .args .table .now) (c .pre .table) (c .pre .is)
 
--- src/lib.rt:78:5
 natural-requires : tie.Need-natural-requires
 natural-requires c κs = search needs
 
--- src/lib.rt:74:1
 returns : tie.Need-returns
 returns c =
     let f : SFits w64 (c .before .word .result) = search needs in

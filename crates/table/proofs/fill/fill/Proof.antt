@@ -1,4 +1,4 @@
-use mathlib.Core.Path.{_≡_, refl, sym, _∙_, ap, subst, subst⁻¹}
+use mathlib.Core.Path.{_≡_, refl, _∙_, ap, subst, subst⁻¹}
 use mathlib.Core.List.{List, [], _∷_}
 use Prim.Native.Nat.{ℕ, _+_, _-_, _*_}
 use native.Mathlib.Omega.{arith}
@@ -14,12 +14,6 @@ use Rattle.table.proofs.NumberLaw.{via}
 use Rattle.table.proofs.FillLaw.{Reached, refused-empty, refused-long, refused-count, starts, refused-rule, goes-on, refused-rest, accepted}
 use Rattle.table.proofs.fill.fill.Statement.{statement}
 use Rattle.table.proofs.fill.fill.Tie as tie
-use Rattle.table.proofs.fill.fill.Reads as reads
-use Rattle.table.proofs.fill.fill.Lts as lts
-use Rattle.table.proofs.fill.put.Reads as put-reads
-use Rattle.table.proofs.number.natural.Reads as natural-reads
-use Rattle.table.proofs.number.word.Reads as word-reads
-use Rattle.table.proofs.rule.rule_parts.Reads as rule-parts-reads
 
 abbrev Inv-loop : tie.InvT-loop
 Inv-loop table index₀ n count at₀ rule₀ index at rule = (length index ≡ length index₀) × Reached table index₀ index count rule at
@@ -31,29 +25,23 @@ abbrev μ-loop : tie.MeasureT-loop
 count-is : (c : tie.After-natural Inv-loop μ-loop) → c .natural .result ≡ naturalOf (getD (c .before .before .before .before .before .args .table .now) 0 (pos 0))
 count-is c = let f : SFits w64 (c .before .word .result) = search needs in via naturalOf f (c .natural .ensures) ∙ ap naturalOf (c .before .word .ensures)
 
--- src/fill.rt:34:9
 returns : tie.Need-returns Inv-loop μ-loop
 returns c = refused-empty (c .before .before .args .table .now) (c .before .before .args .index .now) (c .if1 .taken)
 
--- src/fill.rt:37:9
 returns-2 : tie.Need-returns-2 Inv-loop μ-loop
 returns-2 c = refused-long (c .before .before .before .args .table .now) (c .before .before .before .args .index .now) (c .if2 .taken)
 
--- src/fill.rt:39:25
 word-requires : tie.Need-word-requires Inv-loop μ-loop
 word-requires c κs = search needs
 
--- src/fill.rt:39:9
 natural-requires : tie.Need-natural-requires Inv-loop μ-loop
 natural-requires c κs = search needs
 
--- src/fill.rt:41:9
 returns-3 : tie.Need-returns-3 Inv-loop μ-loop
 returns-3 c =
     let p = count-is (c .before) in
     refused-count (c .before .before .before .before .before .before .args .table .now) (c .before .before .before .before .before .before .args .index .now) (omega arith)
 
--- src/fill.rt:45:5
 loop-holds : tie.Need-loop-holds Inv-loop μ-loop
 loop-holds c =
     let p = count-is (c .before) in
@@ -61,23 +49,18 @@ loop-holds c =
     let old = c .before .before .before .before .before .before .args .index .now in
     (refl, subst⁻¹ (λ (k : ℕ). Reached ws old old k 0 1) p (starts ws old (omega arith) (omega arith) (omega arith) (c .before .before .before .before .before .before .pre)))
 
--- src/fill.rt:46:49
 rule-parts-requires : tie.Need-rule-parts-requires Inv-loop μ-loop
 rule-parts-requires c κs = search needs
 
--- src/fill.rt:46:23
 enum-known-right : tie.Need-enum-known-right Inv-loop μ-loop
 enum-known-right c = search needs
 
--- src/fill.rt:47:35
 enum-told : tie.Need-enum-told Inv-loop μ-loop
 enum-told c = search needs
 
--- src/fill.rt:47:13
 same-length : tie.Need-same-length Inv-loop μ-loop
 same-length c = c .before .before .before .before .loop .inv .0
 
--- src/fill.rt:47:13
 returns-4 : tie.Need-returns-4 Inv-loop μ-loop
 returns-4 c =
     let l = c .before .before .before .before .loop in
@@ -85,7 +68,6 @@ returns-4 c =
     refused-rule ws (c .before .before .before .before .before .before .before .before .before .before .before .args .index .now) (l .index) (c .before .before .before .before .before .before .natural .result) (l .rule) (l .at) (l .inv .1) (c .before .before .before .loop-test .taken)
     (subst (RuleIs ws (l .at)) (c .enum-told .given .1) (c .before .before .rule-parts .ensures))
 
--- src/fill.rt:49:9
 put-requires : tie.Need-put-requires Inv-loop μ-loop
 put-requires c κs =
     let l = c .before .before .before .before .before .before .loop in
@@ -95,15 +77,12 @@ put-requires c κs =
     let h = c .before .before .before .before .before .loop-test .taken in
     omega arith
 
--- src/fill.rt:51:9
 add-rule : tie.Need-add-rule Inv-loop μ-loop
 add-rule c = search needs
 
--- src/fill.rt:45:5
 loop-less : tie.Need-loop-less Inv-loop μ-loop
 loop-less c = search needs
 
--- src/fill.rt:45:5
 loop-again : tie.Need-loop-again Inv-loop μ-loop
 loop-again c =
     let l = c .before .before .before .before .before .before .before .before .before .loop in
@@ -119,21 +98,17 @@ loop-again c =
           (goes-on ws old (l .index) count (l .rule) (l .at) (l .inv .1) (c .before .before .before .before .before .before .before .before .loop-test .taken) right conditions end (subst (RuleIs ws (l .at)) (c .before .before .before .before .before .right .given .1) (c .before .before .before .before .before .before .before .rule-parts .ensures))),
     )
 
--- src/fill.rt:54:9
 same-length-2 : tie.Need-same-length-2 Inv-loop μ-loop
 same-length-2 c = c .before .before .loop .inv .0
 
--- src/fill.rt:54:9
 returns-5 : tie.Need-returns-5 Inv-loop μ-loop
 returns-5 c =
     let l = c .before .before .loop in
     refused-rest (c .before .before .before .before .before .before .before .before .before .args .table .now) (c .before .before .before .before .before .before .before .before .before .args .index .now) (l .index) (c .before .before .before .before .natural .result) (l .rule) (l .at) (l .inv .1) (c .before .loop-test .left) (c .if4 .taken)
 
--- src/fill.rt:28:1
 same-length-3 : tie.Need-same-length-3 Inv-loop μ-loop
 same-length-3 c = c .before .before .loop .inv .0
 
--- src/fill.rt:28:1
 returns-6 : tie.Need-returns-6 Inv-loop μ-loop
 returns-6 c =
     let l = c .before .before .loop in

@@ -4,62 +4,46 @@ use lib.ListN.{length-set}
 use borrow.Author.Needs.{needs}
 use Rattle.table.proofs.fill.put.Statement.{statement}
 use Rattle.table.proofs.fill.put.Tie as tie
-use Rattle.table.proofs.fill.put.Reads as reads
-use Rattle.table.proofs.fill.put.Lts as lts
 
--- src/fill.rt:21:13
 mul-i : tie.Need-mul-i
 mul-i c = search needs
 
--- src/fill.rt:22:5
 mul-index : tie.Need-mul-index
 mul-index c = search needs
 
--- src/fill.rt:22:5
 slice-write-index : tie.Need-slice-write-index
 slice-write-index c = search needs
 
--- src/fill.rt:23:11
 add-index : tie.Need-add-index
 add-index c = search needs
 
--- src/fill.rt:23:5
 mul-index-2 : tie.Need-mul-index-2
 mul-index-2 c = search needs
 
--- src/fill.rt:23:5
 slice-write-index-2 : tie.Need-slice-write-index-2
 slice-write-index-2 c = simp length-set (omega arith)
 
--- src/fill.rt:24:11
 add-index-2 : tie.Need-add-index-2
 add-index-2 c = search needs
 
--- src/fill.rt:24:5
 mul-index-3 : tie.Need-mul-index-3
 mul-index-3 c = search needs
 
--- src/fill.rt:24:5
 slice-write-index-3 : tie.Need-slice-write-index-3
 slice-write-index-3 c = simp length-set (omega arith)
 
--- src/fill.rt:25:11
 add-index-3 : tie.Need-add-index-3
 add-index-3 c = search needs
 
--- src/fill.rt:25:5
 mul-index-4 : tie.Need-mul-index-4
 mul-index-4 c = search needs
 
--- src/fill.rt:25:5
 slice-write-index-4 : tie.Need-slice-write-index-4
 slice-write-index-4 c = simp length-set (omega arith)
 
--- src/fill.rt:17:1
 same-length : tie.Need-same-length
 same-length c = search needs
 
--- src/fill.rt:17:1
 returns : tie.Need-returns
 returns c = simp towards-suc
 

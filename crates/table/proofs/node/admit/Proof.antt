@@ -1,59 +1,42 @@
-use mathlib.Core.Path.{_≡_, sym, _∙_, ap}
-use mathlib.Core.Bool.{Bool, true, false, cond}
+use mathlib.Core.Path.{sym, _∙_, ap}
+use mathlib.Core.Bool.{Bool, cond}
 use borrow.Author.Needs.{needs}
-use lib.ListN.{getD}
 use Rattle.table.specs.Node.{nodeOf}
 use Rattle.table.specs.declared.node.Level.{Level}
 use Rattle.table.specs.declared.node.Level.the-variants.{Expression}
-use Rattle.table.specs.declared.node.Below.{Below}
 use Rattle.table.specs.declared.node.Below.the-variants as B
 use Rattle.table.specs.declared.node.Node.the-variants as N
 use Rattle.table.proofs.NumberLaw.{via₂}
 use Rattle.table.proofs.NodeLaw.{admits, number-small}
 use Rattle.table.proofs.node.admit.Statement.{statement}
 use Rattle.table.proofs.node.admit.Tie as tie
-use Rattle.table.proofs.node.admit.Reads as reads
-use Rattle.table.proofs.node.admit.Lts as lts
-use Rattle.table.proofs.node.classify.Reads as classify-reads
-use Rattle.table.proofs.node.takes_call.Reads as takes-call-reads
-use Rattle.table.proofs.node.takes_variable.Reads as takes-variable-reads
-use Rattle.table.proofs.node.under_plain.Reads as under-plain-reads
 
--- src/node.rt:89:11
 classify-requires : tie.Need-classify-requires
 classify-requires c κs = search needs
 
--- src/node.rt:90:21
 enum-known-k : tie.Need-enum-known-k
 enum-known-k c = search needs
 
--- src/node.rt:90:38
 under-plain-requires : tie.Need-under-plain-requires
 under-plain-requires c κs = search needs
 
--- src/node.rt:91:20
 enum-known-k-2 : tie.Need-enum-known-k-2
 enum-known-k-2 c = search needs
 
--- src/node.rt:92:16
 takes-call-requires : tie.Need-takes-call-requires
 takes-call-requires c κs = search needs
 
--- src/node.rt:98:24
 enum-known-v : tie.Need-enum-known-v
 enum-known-v c = search needs
 
--- src/node.rt:99:16
 takes-variable-requires : tie.Need-takes-variable-requires
 takes-variable-requires c κs =
     let s = c .before .before .before .before .before in
     number-small (s .args .t) (s .args .d) (c .before .before .v .given .0 .0) (sym (c .before .before .v .given .1) ∙ via₂ nodeOf (s .fits .t) (s .fits .d) (c .before .before .before .before .classify .ensures))
 
--- src/node.rt:105:22
 enum-told : tie.Need-enum-told
 enum-told c = search needs
 
--- src/node.rt:86:1
 returns : tie.Need-returns
 returns c =
     let s = c .before .before .before .before .before in
@@ -62,7 +45,6 @@ returns c =
     let a = admits (s .args .level) (s .args .t) (s .args .d) (s .args .seen .now) (N.Plain k) e in
     record { answer = ap (λ (l : Level). B.Are l k) (c .under-plain .ensures) ∙ a .answer; leaves = a .leaves }
 
--- src/node.rt:86:1
 returns-2 : tie.Need-returns-2
 returns-2 c =
     let s = c .before .before .before .before .before .before in
@@ -71,7 +53,6 @@ returns-2 c =
     let a = admits (s .args .level) (s .args .t) (s .args .d) (s .args .seen .now) (N.Call k) e in
     record { answer = ap (λ (b : Bool). cond b (B.Are Expression k) B.Bad) (sym (c .if1 .taken) ∙ c .before .takes-call .ensures) ∙ a .answer; leaves = a .leaves }
 
--- src/node.rt:86:1
 returns-3 : tie.Need-returns-3
 returns-3 c =
     let s = c .before .before .before .before .before .before in
@@ -80,7 +61,6 @@ returns-3 c =
     let a = admits (s .args .level) (s .args .t) (s .args .d) (s .args .seen .now) (N.Call k) e in
     record { answer = ap (λ (b : Bool). cond b (B.Are Expression k) B.Bad) (sym (c .if1 .left) ∙ c .before .takes-call .ensures) ∙ a .answer; leaves = a .leaves }
 
--- src/node.rt:86:1
 returns-4 : tie.Need-returns-4
 returns-4 c =
     let s = c .before .before .before .before .before .before .before in
@@ -90,7 +70,6 @@ returns-4 c =
     let t = c .before .takes-variable .ensures in
     record { answer = ap (λ (b : Bool). cond b (B.Are l 0) B.Bad) (sym (c .if2 .taken) ∙ t .answer) ∙ a .answer; leaves = t .leaves ∙ a .leaves }
 
--- src/node.rt:86:1
 returns-5 : tie.Need-returns-5
 returns-5 c =
     let s = c .before .before .before .before .before .before .before in
@@ -100,7 +79,6 @@ returns-5 c =
     let t = c .before .takes-variable .ensures in
     record { answer = ap (λ (b : Bool). cond b (B.Are l 0) B.Bad) (sym (c .if2 .left) ∙ t .answer) ∙ a .answer; leaves = t .leaves ∙ a .leaves }
 
--- src/node.rt:86:1
 returns-6 : tie.Need-returns-6
 returns-6 c =
     let s = c .before .before .before in

@@ -1,4 +1,4 @@
-use mathlib.Core.Path.{_≡_, sym, _∙_, ap}
+use mathlib.Core.Path.{sym, _∙_, ap}
 use borrow.Author.Needs.{needs}
 use Rattle.term.specs.TermEnd.{childCountOf}
 use Rattle.table.specs.Number.{naturalOf}
@@ -7,38 +7,27 @@ use Rattle.table.proofs.NumberLaw.{via, via₂}
 use Rattle.table.proofs.NodeLaw.{node-bad, node-variable, node-call, node-plain}
 use Rattle.table.proofs.node.classify.Statement.{statement}
 use Rattle.table.proofs.node.classify.Tie as tie
-use Rattle.table.proofs.node.classify.Reads as reads
-use Rattle.table.proofs.node.classify.Lts as lts
-use Rattle.table.proofs.number.natural.Reads as natural-reads
-use Rattle.term.proofs.child_count.Reads as child-count-reads
 
--- src/node.rt:35:24
 child-count-requires : tie.Need-child-count-requires
 child-count-requires c κs = search needs
 
--- src/node.rt:35:19
 enum-known-k : tie.Need-enum-known-k
 enum-known-k c = search needs
 
--- src/node.rt:36:9
 enum-told : tie.Need-enum-told
 enum-told c = search needs
 
--- src/node.rt:36:9
 returns : tie.Need-returns
 returns c =
     let s = c .before .before .before in
     node-bad (s .args .t) (s .args .d) (sym (c .enum-told .given .1) ∙ via₂ childCountOf (s .fits .t) (s .fits .d) (c .before .before .child-count .ensures))
 
--- src/node.rt:38:9
 natural-requires : tie.Need-natural-requires
 natural-requires c κs = search needs
 
--- src/node.rt:40:31
 natural-requires-2 : tie.Need-natural-requires-2
 natural-requires-2 c κs = search needs
 
--- src/node.rt:40:9
 returns-2 : tie.Need-returns-2
 returns-2 c =
     let s = c .before .before .before .before .before .before .before in
@@ -46,14 +35,12 @@ returns-2 c =
     let tag = sym (via naturalOf (s .fits .t) (c .before .before .natural .ensures)) ∙ c .before .if1 .taken in
     ap N.Variable (via naturalOf (s .fits .d) (c .natural2 .ensures)) ∙ node-variable (s .args .t) (s .args .d) (c .before .before .before .before .k .given .0 .0) e tag
 
--- src/node.rt:43:9
 returns-3 : tie.Need-returns-3
 returns-3 c =
     let s = c .before .before .before .before .before .before .before in
     let e = sym (c .before .before .before .before .k .given .1) ∙ via₂ childCountOf (s .fits .t) (s .fits .d) (c .before .before .before .before .before .before .child-count .ensures) in
     node-call (s .args .t) (s .args .d) (c .before .before .before .before .k .given .0 .0) e (sym (via naturalOf (s .fits .t) (c .before .before .natural .ensures)) ∙ c .if2 .taken)
 
--- src/node.rt:32:1
 returns-4 : tie.Need-returns-4
 returns-4 c =
     let s = c .before .before .before .before .before .before .before in

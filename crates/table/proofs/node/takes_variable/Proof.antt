@@ -3,50 +3,37 @@ use Rattle.table.specs.declared.node.Level.the-variants.{Left, Right, Ex
 use Rattle.table.proofs.NodeLaw.{takes}
 use Rattle.table.proofs.node.takes_variable.Statement.{statement}
 use Rattle.table.proofs.node.takes_variable.Tie as tie
-use Rattle.table.proofs.node.takes_variable.Reads as reads
-use Rattle.table.proofs.node.takes_variable.Lts as lts
 
--- src/node.rt:76:13
 enum-told : tie.Need-enum-told
 enum-told c = search needs
 
--- src/node.rt:76:13
 element-write-seen : tie.Need-element-write-seen
 element-write-seen c = search needs
 
--- src/node.rt:79:25
 enum-told-2 : tie.Need-enum-told-2
 enum-told-2 c = search needs
 
--- src/node.rt:79:25
 element-copy-out-result : tie.Need-element-copy-out-result
 element-copy-out-result c = search needs
 
--- src/node.rt:80:30
 enum-told-3 : tie.Need-enum-told-3
 enum-told-3 c = search needs
 
--- src/node.rt:80:30
 element-copy-out-result-2 : tie.Need-element-copy-out-result-2
 element-copy-out-result-2 c = search needs
 
--- src/node.rt:81:26
 enum-told-4 : tie.Need-enum-told-4
 enum-told-4 c = search needs
 
--- src/node.rt:70:1
 returns : tie.Need-returns
 returns c = takes Left (c .before .before .args .level) (c .before .before .args .v) (c .before .before .args .seen .now) (c .enum-told .given .1)
 
--- src/node.rt:70:1
 returns-2 : tie.Need-returns-2
 returns-2 c = takes Right (c .before .before .before .args .level) (c .before .before .before .args .v) (c .before .before .before .args .seen .now) (c .before .enum-told2 .given .1)
 
--- src/node.rt:70:1
 returns-3 : tie.Need-returns-3
 returns-3 c = takes Expression (c .before .before .before .args .level) (c .before .before .before .args .v) (c .before .before .before .args .seen .now) (c .before .enum-told3 .given .1)
 
--- src/node.rt:70:1
 returns-4 : tie.Need-returns-4
 returns-4 c = search needs
 

@@ -1,6 +1,6 @@
 use mathlib.Core.Path.{_≡_, refl, sym, _∙_, ap}
-use mathlib.Core.Option.{none, some}
-use Prim.Native.Nat.{ℕ, zero, _≤_, _<_}
+use mathlib.Core.Option.{some}
+use Prim.Native.Nat.{ℕ}
 use native.Mathlib.Omega.{arith}
 use borrow.Author.Needs.{needs}
 use Rattle.table.specs.Walk.{placed, partEnd}
@@ -9,9 +9,6 @@ use Rattle.table.specs.declared.node.Level.the-variants.{Expression}
 use Rattle.table.proofs.SideLaw.{side-keeps, side-at, side-nowhere, first-missed, second-missed, both-found}
 use Rattle.table.proofs.rule.conditions_end.Statement.{statement}
 use Rattle.table.proofs.rule.conditions_end.Tie as tie
-use Rattle.table.proofs.rule.conditions_end.Reads as reads
-use Rattle.table.proofs.rule.conditions_end.Lts as lts
-use Rattle.table.proofs.walk.part_end.Reads as part-end-reads
 
 abbrev Inv-loop : tie.InvT-loop
 Inv-loop table at count seen₀ i₀ k₀ seen i k = (seen ≡ seen₀) × (conditionsEnd count table seen₀ at ≡ conditionsEnd k table seen₀ i)
@@ -19,23 +16,18 @@ Inv-loop table at count seen₀ i₀ k₀ seen i k = (seen ≡ seen₀) × (cond
 abbrev μ-loop : tie.MeasureT-loop
 μ-loop table at count seen₀ i₀ k₀ seen i k = k
 
--- src/rule.rt:23:5
 loop-holds : tie.Need-loop-holds Inv-loop μ-loop
 loop-holds c = (refl, refl)
 
--- src/rule.rt:24:33
 part-end-requires : tie.Need-part-end-requires Inv-loop μ-loop
 part-end-requires c κs = search needs
 
--- src/rule.rt:24:23
 enum-known-second : tie.Need-enum-known-second Inv-loop μ-loop
 enum-known-second c = search needs
 
--- src/rule.rt:25:13
 enum-told : tie.Need-enum-told Inv-loop μ-loop
 enum-told c = search needs
 
--- src/rule.rt:25:13
 returns : tie.Need-returns Inv-loop μ-loop
 returns c =
     let l = c .before .before .before .before .before .loop in
@@ -47,15 +39,12 @@ returns c =
       leaves = side-keeps ws s (l .i) (l .seen) (f .last .1 .1 .1 .0) (f .result) (f .ensures) (l .inv .0);
     }
 
--- src/rule.rt:27:30
 part-end-requires-2 : tie.Need-part-end-requires-2 Inv-loop μ-loop
 part-end-requires-2 c κs = search needs
 
--- src/rule.rt:27:23
 enum-known-end : tie.Need-enum-known-end Inv-loop μ-loop
 enum-known-end c = search needs
 
--- src/rule.rt:28:13
 enum-told-2 : tie.Need-enum-told-2 Inv-loop μ-loop
 enum-told-2 c = search needs
 
@@ -72,7 +61,6 @@ first c =
     let f = c .before .before .before .part-end in
     side-at (c .before .before .before .before .before .before .before .args .table .now) (c .before .before .before .before .before .before .before .args .seen .now) (l .i) (l .seen) (f .last .1 .1 .1 .0) (f .result) (f .ensures) (l .inv .0) (c .before .second .given .0 .0) (c .before .second .given .1)
 
--- src/rule.rt:28:13
 returns-2 : tie.Need-returns-2 Inv-loop μ-loop
 returns-2 c =
     let l = c .before .before .before .before .before .before .before .before .before .before .loop in
@@ -86,15 +74,12 @@ returns-2 c =
       leaves = side-keeps ws s m (c .before .before .before .before .before .before .before .part-end .last .1 .1 .1 .0) (f .last .1 .1 .1 .0) (f .result) (f .ensures) k;
     }
 
--- src/rule.rt:31:9
 sub-k : tie.Need-sub-k Inv-loop μ-loop
 sub-k c = search needs
 
--- src/rule.rt:23:5
 loop-less : tie.Need-loop-less Inv-loop μ-loop
 loop-less c = search needs
 
--- src/rule.rt:23:5
 loop-again : tie.Need-loop-again Inv-loop μ-loop
 loop-again c =
     let l = c .before .before .before .before .before .before .before .before .before .before .before .loop in
@@ -108,7 +93,6 @@ loop-again c =
           (side-at ws s m (c .before .before .before .before .before .before .before .before .part-end .last .1 .1 .1 .0) (f .last .1 .1 .1 .0) (f .result) (f .ensures) k (c .before .end .given .0 .0) (c .before .end .given .1)),
     )
 
--- src/rule.rt:18:1
 returns-3 : tie.Need-returns-3 Inv-loop μ-loop
 returns-3 c =
     let l = c .before .loop in

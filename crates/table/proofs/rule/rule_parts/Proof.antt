@@ -1,6 +1,6 @@
 use mathlib.Core.Path.{_≡_, refl, sym, _∙_, ap, subst⁻¹}
 use mathlib.Core.Bool.{Bool}
-use mathlib.Core.Option.{none, some}
+use mathlib.Core.Option.{some}
 use mathlib.Core.List.{List}
 use Prim.Native.Nat.{_+_, _≤_}
 use native.Mathlib.Omega.{arith}
@@ -19,12 +19,6 @@ use Rattle.table.proofs.KeepLaw.{part-keeps}
 use Rattle.table.proofs.RuleLaw.{Head, unseen, rule-short, rule-action, rule-count, rule-head, rule-left, rule-right, rule-conditions, rule-good}
 use Rattle.table.proofs.rule.rule_parts.Statement.{statement}
 use Rattle.table.proofs.rule.rule_parts.Tie as tie
-use Rattle.table.proofs.rule.rule_parts.Reads as reads
-use Rattle.table.proofs.rule.rule_parts.Lts as lts
-use Rattle.table.proofs.number.natural.Reads as natural-reads
-use Rattle.table.proofs.number.word.Reads as word-reads
-use Rattle.table.proofs.rule.conditions_end.Reads as conditions-end-reads
-use Rattle.table.proofs.walk.part_end.Reads as part-end-reads
 
 -- the words and their numbers
 room : (c : tie.Else2) → c .before .before .args .at + 2 ≤ length (c .before .before .args .table .now)
@@ -64,83 +58,65 @@ kept c = c .part-end2 .ensures .leaves ∙ (part-keeps (c .before .before .befor
 conditions-are : (c : tie.After-conditions-end) → c .conditions-end .result ≡ placed (conditionsEnd (c .before .before .before .before .before .before .before .before .before .before .before .before .before .natural2 .result) (c .before .before .before .before .before .before .before .before .before .before .before .before .before .before .before .before .before .before .before .before .args .table .now) (partSeen (c .before .before .before .before .before .before .before .before .before .before .before .before .before .before .before .before .before .before .before .before .args .table .now) (c .before .before .before .before .before .before .before .before .before .before .before .before .before .before .before .before .before .before .before .before .args .at + 2) Left unseen) (c .before .before .before .conditions .given .0 .0))
 conditions-are c = c .conditions-end .ensures .answer ∙ ap (λ (s : List Bool). placed (conditionsEnd (c .before .before .before .before .before .before .before .before .before .before .before .before .before .natural2 .result) (c .before .before .before .before .before .before .before .before .before .before .before .before .before .before .before .before .before .before .before .before .args .table .now) s (c .before .before .before .conditions .given .0 .0))) (kept (c .before .before .before .before .before))
 
--- src/rule.rt:42:9
 returns : tie.Need-returns
 returns c = rule-short (c .before .args .table .now) (c .before .args .at) (omega arith)
 
--- src/rule.rt:45:9
 returns-2 : tie.Need-returns-2
 returns-2 c = rule-short (c .before .before .args .table .now) (c .before .before .args .at) (omega arith)
 
--- src/rule.rt:47:24
 word-requires : tie.Need-word-requires
 word-requires c κs = search needs
 
--- src/rule.rt:47:16
 natural-requires : tie.Need-natural-requires
 natural-requires c κs = search needs
 
--- src/rule.rt:48:9
 returns-3 : tie.Need-returns-3
 returns-3 c =
     let p = first-number (c .before) in
     rule-action (c .before .before .before .before .before .args .table .now) (c .before .before .before .before .before .args .at) (room (c .before .before .before)) (c .before .before .word .result) (getD (c .before .before .before .before .before .args .table .now) (c .before .before .before .before .before .args .at + 1) (pos 0)) (c .before .before .word .ensures) refl (omega arith)
 
--- src/rule.rt:50:37
 add-word : tie.Need-add-word
 add-word c = search needs
 
--- src/rule.rt:50:25
 word-requires-2 : tie.Need-word-requires-2
 word-requires-2 c κs = search needs
 
--- src/rule.rt:50:9
 natural-requires-2 : tie.Need-natural-requires-2
 natural-requires-2 c κs = search needs
 
--- src/rule.rt:52:9
 returns-4 : tie.Need-returns-4
 returns-4 c =
     let p = first-number (c .before .before .before .before) in
     let q = second-number (c .before) in
     rule-count (c .before .before .before .before .before .before .before .before .args .table .now) (c .before .before .before .before .before .before .before .before .args .at) (room (c .before .before .before .before .before .before)) (c .before .before .before .before .before .word .result) (c .before .before .word2 .result) (c .before .before .before .before .before .word .ensures) (c .before .before .word2 .ensures) (omega arith) (omega arith)
 
--- src/rule.rt:55:44
 add-part-end : tie.Need-add-part-end
 add-part-end c = search needs
 
--- src/rule.rt:55:28
 part-end-requires : tie.Need-part-end-requires
 part-end-requires c κs = search needs
 
--- src/rule.rt:55:19
 enum-known-right : tie.Need-enum-known-right
 enum-known-right c = search needs
 
--- src/rule.rt:56:9
 enum-told : tie.Need-enum-told
 enum-told c = search needs
 
--- src/rule.rt:56:9
 returns-5 : tie.Need-returns-5
 returns-5 c =
     let ws = c .before .before .before .before .before .before .before .before .before .before .before .before .args .table .now in
     let at = c .before .before .before .before .before .before .before .before .before .before .before .before .args .at in
     rule-left ws at (c .before .before .before .before .before .natural2 .result) (head (c .before .before .before .before)) (placed-nowhere (partEnd ws (at + 2) Left unseen) (sym (c .enum-told .given .1) ∙ left-contract (c .before .before) .answer))
 
--- src/rule.rt:58:33
 part-end-requires-2 : tie.Need-part-end-requires-2
 part-end-requires-2 c κs = search needs
 
--- src/rule.rt:58:19
 enum-known-conditions : tie.Need-enum-known-conditions
 enum-known-conditions c = search needs
 
--- src/rule.rt:59:9
 enum-told-2 : tie.Need-enum-told-2
 enum-told-2 c = search needs
 
--- src/rule.rt:59:9
 returns-6 : tie.Need-returns-6
 returns-6 c =
     let ws = c .before .before .before .before .before .before .before .before .before .before .before .before .before .before .before .before .before .args .table .now in
@@ -149,19 +125,15 @@ returns-6 c =
     rule-right ws at (c .before .before .before .before .before .before .before .before .before .before .natural2 .result) (head (c .before .before .before .before .before .before .before .before .before)) right (left-at (c .before .before .before .before))
     (placed-nowhere (partEnd ws right Right (partSeen ws (at + 2) Left unseen)) (sym (c .enum-told2 .given .1) ∙ right-is (c .before .before)))
 
--- src/rule.rt:61:26
 conditions-end-requires : tie.Need-conditions-end-requires
 conditions-end-requires c κs = search needs
 
--- src/rule.rt:61:19
 enum-known-end : tie.Need-enum-known-end
 enum-known-end c = search needs
 
--- src/rule.rt:62:9
 enum-told-3 : tie.Need-enum-told-3
 enum-told-3 c = search needs
 
--- src/rule.rt:62:9
 returns-7 : tie.Need-returns-7
 returns-7 c =
     let ws = c .before .before .before .before .before .before .before .before .before .before .before .before .before .before .before .before .before .before .before .before .before .before .args .table .now in
@@ -171,7 +143,6 @@ returns-7 c =
     rule-conditions ws at count (head (c .before .before .before .before .before .before .before .before .before .before .before .before .before .before)) (c .before .before .before .before .before .before .before .before .before .before .right .given .0 .0) (left-at (c .before .before .before .before .before .before .before .before .before)) conditions (right-at (c .before .before .before .before))
     (placed-nowhere (conditionsEnd count ws (partSeen ws (at + 2) Left unseen) conditions) (sym (c .enum-told3 .given .1) ∙ conditions-are (c .before .before)))
 
--- src/rule.rt:37:1
 returns-8 : tie.Need-returns-8
 returns-8 c =
     let ws = c .before .before .before .before .before .before .before .before .before .before .before .before .before .before .before .before .before .before .before .before .before .before .before .args .table .now in

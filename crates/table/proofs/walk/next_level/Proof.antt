@@ -2,22 +2,16 @@ use native.Mathlib.Omega.{arith}
 use Rattle.table.proofs.PendingLaw.{next-ground, next-inner, next-outer, next-done}
 use Rattle.table.proofs.walk.next_level.Statement.{statement}
 use Rattle.table.proofs.walk.next_level.Tie as tie
-use Rattle.table.proofs.walk.next_level.Reads as reads
-use Rattle.table.proofs.walk.next_level.Lts as lts
 
--- src/walk.rt:37:9
 returns : tie.Need-returns
 returns c = next-ground (c .before .before .args .kind) (c .before .before .args .p) (c .if1 .taken)
 
--- src/walk.rt:40:9
 returns-2 : tie.Need-returns-2
 returns-2 c = next-inner (c .before .before .before .before .args .kind) (c .before .before .before .before .args .p) (omega arith) (c .if2 .taken)
 
--- src/walk.rt:43:9
 returns-3 : tie.Need-returns-3
 returns-3 c = next-outer (c .before .before .before .before .before .before .args .kind) (c .before .before .before .before .before .before .args .p) (omega arith) (omega arith) (c .if3 .taken)
 
--- src/walk.rt:33:1
 returns-4 : tie.Need-returns-4
 returns-4 c = next-done (c .before .before .before .before .before .before .args .kind) (c .before .before .before .before .before .before .args .p) (omega arith) (omega arith) (omega arith)
 

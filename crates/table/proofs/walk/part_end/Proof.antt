@@ -1,10 +1,8 @@
 use mathlib.Core.Path.{_≡_, refl, sym, _∙_, ap}
-use mathlib.Core.Option.{Option, none, some}
-use mathlib.Core.List.{List, [], _∷_}
-use Prim.Native.Nat.{ℕ, suc, _+_, _-_, _*_, _≤_}
+use Prim.Native.Nat.{suc, _+_, _-_, _*_, _≤_}
 use native.Mathlib.Omega.{arith}
-use lib.IntN.{ℤ, pos}
-use lib.ListN.{length, drop, getD}
+use lib.IntN.{ℤ}
+use lib.ListN.{length, drop}
 use borrow.Author.Needs.{needs}
 use mir.Val.{SFits}
 use mir.Syntax.{w64}
@@ -12,18 +10,11 @@ use Rattle.table.specs.Node.{Admits}
 use Rattle.table.proofs.NumberLaw.{said₂}
 use Rattle.table.specs.declared.walk.Pending.{Pending}
 use Rattle.table.specs.declared.walk.Next.the-variants as X
-use Rattle.table.specs.Walk.{nextOf, popped, pushed, walk, within, placed, partWalk, levels, pending}
+use Rattle.table.specs.Walk.{nextOf, popped, pushed, walk, partWalk, levels, pending}
 use Rattle.table.proofs.PendingLaw.{pop-count, push-count}
 use Rattle.table.proofs.TurnLaw.{turn-done, turn-short, turn-bad, turn-seven, turn-on, part-bad, part-good, part-large, part-outside}
 use Rattle.table.proofs.walk.part_end.Statement.{statement}
 use Rattle.table.proofs.walk.part_end.Tie as tie
-use Rattle.table.proofs.walk.part_end.Reads as reads
-use Rattle.table.proofs.walk.part_end.Lts as lts
-use Rattle.table.proofs.node.admit.Reads as admit-reads
-use Rattle.table.proofs.number.word.Reads as word-reads
-use Rattle.table.proofs.walk.next_level.Reads as next-level-reads
-use Rattle.table.proofs.walk.pop.Reads as pop-reads
-use Rattle.table.proofs.walk.push.Reads as push-reads
 
 abbrev Inv-loop : tie.InvT-loop
 Inv-loop table at kind seen₀ n p₀ i₀ seen p i =
@@ -68,32 +59,25 @@ on c =
     l .inv .4 ∙ turn-on (a .table .now) (l .i) (a .kind) (l .p) (l .seen) (c .before .before .before .before .before .before .before .before .before .level .given .0 .0) (next-at f) (room f) (c .before .before .before .before .before .before .word .result) (c .before .before .before .before .before .word2 .result) (c .before .before .before .before .before .before .word .ensures) (c .before .before .before .before .before .word2 .ensures)
     (f .admit .last .1 .1 .1 .0) (f .admit .result) (tested f) (c .before .below .given .0 .0) (c .before .below .given .0 .1 .0) (c .before .below .given .1)
 
--- src/walk.rt:109:9
 returns : tie.Need-returns Inv-loop μ-loop
 returns c = part-outside (c .before .args .table .now) (c .before .args .at) (c .before .args .kind) (c .before .args .seen .now) (c .if1 .taken)
 
--- src/walk.rt:117:5
 loop-holds : tie.Need-loop-holds Inv-loop μ-loop
 unfolding partWalk
 loop-holds c = (refl, omega arith, omega arith, omega arith, refl)
 
--- src/walk.rt:118:31
 next-level-requires : tie.Need-next-level-requires Inv-loop μ-loop
 next-level-requires c κs = search needs
 
--- src/walk.rt:118:22
 enum-known-level : tie.Need-enum-known-level Inv-loop μ-loop
 enum-known-level c = search needs
 
--- src/walk.rt:119:13
 enum-told : tie.Need-enum-told Inv-loop μ-loop
 enum-told c = search needs
 
--- src/walk.rt:121:12
 sub-if2 : tie.Need-sub-if2 Inv-loop μ-loop
 sub-if2 c = search needs
 
--- src/walk.rt:122:13
 returns-2 : tie.Need-returns-2 Inv-loop μ-loop
 returns-2 c =
     let a = c .before .before .before .before .before .before .before .args in
@@ -101,31 +85,24 @@ returns-2 c =
     let e = sym (c .before .before .before .before .next-level .ensures) ∙ c .before .before .level .given .1 in
     part-bad (a .table .now) (a .at) (a .kind) (a .seen .now) (l .seen) (l .inv .4 ∙ turn-short (a .table .now) (l .i) (a .kind) (l .p) (l .seen) (c .before .before .level .given .0 .0) e (c .if2 .taken))
 
--- src/walk.rt:124:13
 word-requires : tie.Need-word-requires Inv-loop μ-loop
 word-requires c κs = search needs
 
--- src/walk.rt:125:29
 add-word : tie.Need-add-word Inv-loop μ-loop
 add-word c = search needs
 
--- src/walk.rt:125:13
 word-requires-2 : tie.Need-word-requires-2 Inv-loop μ-loop
 word-requires-2 c κs = search needs
 
--- src/walk.rt:126:36
 admit-requires : tie.Need-admit-requires Inv-loop μ-loop
 admit-requires c κs = search needs
 
--- src/walk.rt:126:24
 enum-known-below : tie.Need-enum-known-below Inv-loop μ-loop
 enum-known-below c = search needs
 
--- src/walk.rt:127:13
 enum-told-2 : tie.Need-enum-told-2 Inv-loop μ-loop
 enum-told-2 c = search needs
 
--- src/walk.rt:127:13
 returns-3 : tie.Need-returns-3 Inv-loop μ-loop
 returns-3 c =
     let f = c .before .before in
@@ -136,11 +113,9 @@ returns-3 c =
     (c .before .before .before .before .before .word .result) (c .before .before .before .before .word2 .result) (c .before .before .before .before .before .word .ensures) (c .before .before .before .before .word2 .ensures) (f .admit .last .1 .1 .1 .0) (f .admit .result) (tested f) (c .enum-told2 .given .1)
     )
 
--- src/walk.rt:129:18
 pop-requires : tie.Need-pop-requires Inv-loop μ-loop
 pop-requires c κs = let h = fewer c in omega arith
 
--- src/walk.rt:129:9
 push-requires : tie.Need-push-requires Inv-loop μ-loop
 push-requires c κs =
     let k = few (c .before) in
@@ -150,15 +125,12 @@ push-requires c κs =
     let m = room (c .before .before .before .before) in
     omega (arith, c .before .before .before .before .before .before .before .before .before .before .before .before .before .before .before .good)
 
--- src/walk.rt:130:9
 add-i : tie.Need-add-i Inv-loop μ-loop
 add-i c = search needs
 
--- src/walk.rt:117:5
 loop-less : tie.Need-loop-less Inv-loop μ-loop
 loop-less c = search needs
 
--- src/walk.rt:117:5
 loop-again : tie.Need-loop-again Inv-loop μ-loop
 loop-again c =
     let f = c .before .before in
@@ -175,18 +147,15 @@ loop-again c =
       on f ∙ ap (λ (q : Pending). walk (drop (c .before .before .before .before .before .before .before .before .before .before .before .before .before .before .loop .i + 2) (c .before .before .before .before .before .before .before .before .before .before .before .before .before .before .before .before .args .table .now)) (c .before .before .before .before .before .before .before .before .before .before .before .before .before .before .loop .i + 2) (levels (c .before .before .before .before .before .before .before .before .before .before .before .before .before .before .before .before .args .kind) q) (c .before .before .before .before .before .admit .last .1 .1 .1 .0)) (sym e),
     )
 
--- src/walk.rt:132:15
 sub-if3 : tie.Need-sub-if3 Inv-loop μ-loop
 sub-if3 c = search needs
 
--- src/walk.rt:133:9
 returns-4 : tie.Need-returns-4 Inv-loop μ-loop
 returns-4 c =
     let a = c .before .before .before .before .before .before .args in
     let l = c .before .before .before .before .loop in
     part-large (a .table .now) (a .at) (a .kind) (a .seen .now) (l .seen) (l .i) (l .inv .4 ∙ turn-done (a .table .now) (l .i) (a .kind) (l .p) (l .seen) (sym (c .before .before .before .next-level .ensures) ∙ c .before .enum-told .given .1)) (c .if3 .taken)
 
--- src/walk.rt:104:1
 returns-5 : tie.Need-returns-5 Inv-loop μ-loop
 returns-5 c =
     let a = c .before .before .before .before .before .before .args in
