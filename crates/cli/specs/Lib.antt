@@ -1,0 +1,7 @@
+-- What must be believed: numbers as text, the four lines, the answer's text, and the contract of `answer`.
+pub mod Decimal
+pub mod Input
+pub mod Output
+pub mod Contract
+-- What the routines below `answer` do. No part of the meaning: `proofs/` shows that together they read exactly the inputs.
+pub mod Computed
