@@ -19,6 +19,7 @@ use Rattle.minuska.proofs.PlaceLaw.{stands-head}
 use Rattle.minuska.proofs.IndexLaw.{one-table, RulePlaced, rule-placed}
 use Rattle.minuska.proofs.PositionLaw.{element-there, few-rules, order-length}
 use Rattle.minuska.proofs.StepLaw.{rule-okay}
+use Rattle.minuska.proofs.OrderLaw.{named-below}
 use Rattle.table.specs.Number.{naturalOf}
 
 -- ---- the first word
@@ -33,12 +34,6 @@ pub rule-count-is : (ws : List ℤ) (n : ℕ) → n ≡ naturalOf (getD ws 0 (po
 rule-count-is ws n e = record { is = λ t p. e ∙ ap naturalOf (first-word ws t p) }
 
 -- ---- A NUMBER NAMES A RULE exactly if it is below the rule count
-named : (t : Table) (n : ℕ) (r : Rule) → getElem? t n ≡ some r → n < length t
-named [] zero r e = absurd (Option·none-ne-some r e)
-named [] (suc n) r e = absurd (Option·none-ne-some r e)
-named (q ∷ t) zero r e = omega arith
-named (q ∷ t) (suc n) r e = let h = named t n r e in omega arith
-
 unnamed : {A : Type 0} (xs : List A) (n : ℕ) → length xs ≤ n → getElem? xs n ≡ none
 unnamed [] n h = refl
 unnamed (x ∷ xs) zero h = absurd (let f : ⊥ = omega arith in f)
@@ -47,14 +42,14 @@ unnamed (x ∷ xs) (suc n) h = unnamed xs n (omega arith)
 pub names-iff : (ws : List ℤ) (t : Table) (count n : ℕ) → RuleCountIs ws count → IsTable ws t → ((r : Rule) × (getElem? t n ≡ some r)) ↔ (n < count)
 names-iff ws t count n c p =
     let e = c .is t p in
-    ((λ h. let k = named t n (h .0) (h .1) in omega arith), λ h. element-there t n (omega arith))
+    ((λ h. let k = named-below t n (h .0) (h .1) in omega arith), λ h. element-there t n (omega arith))
 
 -- ---- a rule's action
 module _ (ws : List ℤ) (index : List ℕ) (x : Indexed ws index) (count : ℕ) (c : RuleCountIs ws count) (n : ℕ) where
   pub no-rule : count ≤ n → ActionIs ws n 0
   no-rule h =
       record {
-        is = λ t r p e. absurd (let k = named t n r e in let q = c .is t p in let f : ⊥ = omega arith in f);
+        is = λ t r p e. absurd (let k = named-below t n r e in let q = c .is t p in let f : ⊥ = omega arith in f);
         other = λ t p e. refl;
       }
 
@@ -70,7 +65,7 @@ module _ (ws : List ℤ) (index : List ℕ) (x : Indexed ws index) (count : ℕ)
 
     pub number-small : n < 256
     number-small =
-        let k = named (x .table) n the-rule numbered in
+        let k = named-below (x .table) n the-rule numbered in
         let f = few-rules (x .table) (x .is .accepted) in
         omega arith
 
