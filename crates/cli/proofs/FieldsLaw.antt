@@ -18,8 +18,9 @@ use Rattle.cli.specs.Input.{continued, parted, isWord, isAction, isLimit
 use Rattle.cli.specs.Computed.Number.{numberAt}
 use Rattle.cli.specs.Computed.Line.{itemOf, endOf, logItems, accepted, limitIn, wordOf, actionOf, limitOf}
 use Rattle.cli.proofs.ListLaw.{within}
-use Rattle.cli.proofs.NumberLaw.{Small, text-there, number-complete}
-use Rattle.cli.proofs.SoundLaw.{Found, Sound, number-sound}
+use Rattle.cli.specs.Number.{Small, Standing}
+use Rattle.cli.proofs.NumberLaw.{text-there, number-complete}
+use Rattle.cli.proofs.SoundLaw.{Sound, number-sound}
 use Rattle.cli.proofs.LineLaw.{FieldLaw, text-pos, no-bytes, field-complete, field-sound}
 
 pub words : FieldLaw (λ z. z) wholeText isWord wordOf
@@ -61,12 +62,12 @@ limit-complete line n s t =
     let e : 0 + length (decimal n) ≡ length line = rw s (omega arith) in
     rw (r, eq-eqb (0 + length (decimal n)) (length line) e) (provided-true (isLimit n) n t)
 
-all-of : (line : List ℕ) (n e : ℕ) → Found line 0 (pos n) e → e ≡ length line → line ≡ decimal n
+all-of : (line : List ℕ) (n e : ℕ) → Standing line 0 (pos n) e → e ≡ length line → line ≡ decimal n
 unfolding wholeText
 all-of line n e h q =
-    let w = within line 0 (wholeText (pos n)) (h .rest) (h .split) (text-there (pos n)) in
-    let nothing : h .rest ≡ [] = no-bytes (h .rest) (omega (arith, h .end, w, q)) in
-    h .split ∙ (rw nothing (append-nil (decimal n)))
+    let w = within line 0 (wholeText (pos n)) (h .rest) (h .text) (text-there (pos n)) in
+    let nothing : h .rest ≡ [] = no-bytes (h .rest) (omega (arith, h .ends, w, q)) in
+    h .text ∙ (rw nothing (append-nil (decimal n)))
 
 by-limit : (line : List ℕ) (n : ℕ) (x : Number) → Sound line 0 x → cond (eqb (endOf x) (length line)) (itemOf limitOf x) none ≡ some n → (line ≡ decimal n) × T (isLimit n)
 by-limit line n (Natural m e) h f = by-test (eqb e (length line)) refl f

@@ -26,7 +26,8 @@ use Rattle.cli.specs.declared.line.Count.{Count}
 use Rattle.cli.specs.declared.line.Count.the-variants as C
 use Rattle.cli.specs.Computed.Number.{numberAt}
 use Rattle.cli.specs.Computed.Line.{wordOf, actionOf, itemOf, endOf, items, logItems, accepted, wordAt, actionAt, limitOf, limitIn, limitAnswer, ReadInto}
-use Rattle.cli.proofs.SoundLaw.{Found, Sound, number-sound}
+use Rattle.cli.specs.Number.{Standing}
+use Rattle.cli.proofs.SoundLaw.{Sound, number-sound}
 use Rattle.cli.proofs.WordTurn.{word-is, word-bad, action-is, action-bad}
 use Rattle.cli.proofs.LineTurn.{Going, faults, ends, goes}
 
@@ -96,7 +97,7 @@ module _ (line : List ℕ) (n : Number) (is : n ≡ numberAt line 0) where
 
   pub limit-whole : (v e : ℕ) → n ≡ N.Natural v e → e ≡ length line → L.Is v ≡ limitAnswer (limitIn line)
   limit-whole v e q p =
-      let f : Found line 0 (pos v) e = subst (Sound line 0) (sym is ∙ q) (number-sound line 0) in
+      let f : Standing line 0 (pos v) e = subst (Sound line 0) (sym is ∙ q) (number-sound line 0) in
       rw (limit-is, q, eq-eqb e (length line) p, lt-ltb v (2 ^ 64) (f .small))
 
   pub limit-more : (v e : ℕ) → n ≡ N.Natural v e → (e ≡ length line → ⊥) → L.Bad ≡ limitAnswer (limitIn line)

@@ -18,8 +18,9 @@ use Rattle.cli.specs.Input.{continued, parted}
 use Rattle.cli.specs.Computed.Number.{numberAt}
 use Rattle.cli.specs.Computed.Line.{itemOf, endOf, Items, followed, thenRest, itemsFrom, items, accepted}
 use Rattle.cli.proofs.ListLaw.{behind, behind-head, within}
-use Rattle.cli.proofs.NumberLaw.{numberOf, Small, Ends, text-there, number-complete}
-use Rattle.cli.proofs.SoundLaw.{Found, Sound, number-sound}
+use Rattle.cli.specs.Number.{numberOf, Small, Ends, Standing}
+use Rattle.cli.proofs.NumberLaw.{text-there, number-complete}
+use Rattle.cli.proofs.SoundLaw.{Sound, number-sound}
 
 -- what a field is: its numbers, their text, and which fit
 pub record FieldLaw {A : Type 0} (whole : A → ℤ) (text : A → List ℕ) (fits : A → Bool) (field : ℤ → Option A) : Type 0 where
@@ -42,23 +43,23 @@ no-bytes (x ∷ l) e = absurd (omega arith)
 
 module _ {A : Type 0} (whole : A → ℤ) (text : A → List ℕ) (fits : A → Bool) (field : ℤ → Option A) (law : FieldLaw whole text fits field) (line : List ℕ) where
   -- ---- sound
-  record Standing (at : ℕ) (xs : List A) : Type 0 where
+  record Listed (at : ℕ) (xs : List A) : Type 0 where
     pub stands : drop at line ≡ parted (map text xs)
     pub each : T (every fits xs)
     pub there : 0 < length xs
 
   abbrev IfWhole : ℕ → Items A → Type 0
-  IfWhole at i = i .whole ≡ true → Standing at (i .read)
+  IfWhole at i = i .whole ≡ true → Listed at (i .read)
 
   -- a last number; a number before others
-  last-item : (at e : ℕ) (x : A) → Found line at (whole x) e → T (fits x) → e ≡ length line → Standing at (x ∷ [])
+  last-item : (at e : ℕ) (x : A) → Standing line at (whole x) e → T (fits x) → e ≡ length line → Listed at (x ∷ [])
   last-item at e x h t q =
-      let w = within line at (wholeText (whole x)) (h .rest) (h .split) (text-there (whole x)) in
-      let nothing : h .rest ≡ [] = no-bytes (h .rest) (omega (arith, h .end, w, q)) in
-      record { stands = h .split ∙ rw (nothing, law .texts x); each = and-both (fits x) true t tt; there = omega arith }
+      let w = within line at (wholeText (whole x)) (h .rest) (h .text) (text-there (whole x)) in
+      let nothing : h .rest ≡ [] = no-bytes (h .rest) (omega (arith, h .ends, w, q)) in
+      record { stands = h .text ∙ rw (nothing, law .texts x); each = and-both (fits x) true t tt; there = omega arith }
 
   more-items : (at e : ℕ) (x : A) (xs : List A) (rest : List ℕ) → drop at line ≡ wholeText (whole x) ++ rest → Ends rest → e ≡ at + length (wholeText (whole x))
-      → T (fits x) → (e ≡ length line → ⊥) → Standing (suc e) xs → Standing at (x ∷ xs)
+      → T (fits x) → (e ≡ length line → ⊥) → Listed (suc e) xs → Listed at (x ∷ xs)
   more-items at e x xs [] s n q t u i =
       let w = within line at (wholeText (whole x)) [] s (text-there (whole x)) in
       absurd (u (omega arith))
@@ -68,18 +69,18 @@ module _ {A : Type 0} (whole : A → ℤ) (text : A → List ℕ) (fits : A → 
       let others : rest ≡ parted (map text (y ∷ ys)) = sym (behind-head line e b rest g) ∙ i .stands in
       record { stands = s ∙ rw (n, others, law .texts x); each = and-both (fits x) (every fits (y ∷ ys)) t (i .each); there = omega arith }
 
-  by-end : (at e : ℕ) (x : A) (rest : ℕ → Items A) → Found line at (whole x) e → T (fits x) → IfWhole (suc e) (rest (suc e)) → IfWhole at (thenRest field line rest e (some x))
+  by-end : (at e : ℕ) (x : A) (rest : ℕ → Items A) → Standing line at (whole x) e → T (fits x) → IfWhole (suc e) (rest (suc e)) → IfWhole at (thenRest field line rest e (some x))
   by-end at e x rest h t i = by-test (eqb e (length line)) refl
     where
       by-test : (b : Bool) → eqb e (length line) ≡ b → IfWhole at (followed b x (rest (suc e)))
       by-test true p w = last-item at e x h t (eqb-true e (length line) p)
-      by-test false p w = more-items at e x (rest (suc e) .read) (h .rest) (h .split) (h .ends) (h .end) t (eqb-false e (length line) p) (i w)
+      by-test false p w = more-items at e x (rest (suc e) .read) (h .rest) (h .text) (h .parted) (h .ends) t (eqb-false e (length line) p) (i w)
 
-  by-item : (at e : ℕ) (z : ℤ) (o : Option A) (rest : ℕ → Items A) → field z ≡ o → Found line at z e → IfWhole (suc e) (rest (suc e)) → IfWhole at (thenRest field line rest e o)
+  by-item : (at e : ℕ) (z : ℤ) (o : Option A) (rest : ℕ → Items A) → field z ≡ o → Standing line at z e → IfWhole (suc e) (rest (suc e)) → IfWhole at (thenRest field line rest e o)
   by-item at e z none rest q h i w = absurd (true≢false (sym w))
   by-item at e z (some x) rest q h i w =
       let s = law .sound z x q in
-      by-end at e x rest (subst (λ (y : ℤ). Found line at y e) (s .0) h) (s .1) i w
+      by-end at e x rest (subst (λ (y : ℤ). Standing line at y e) (s .0) h) (s .1) i w
 
   by-number : (at : ℕ) (n : Number) (rest : ℕ → Items A) → Sound line at n → ((e : ℕ) → IfWhole e (rest e)) → IfWhole at (thenRest field line rest (endOf n) (itemOf field n))
   by-number at (Natural n e) rest h i w = by-item at e (pos n) (field (pos n)) rest refl h (i (suc e)) w

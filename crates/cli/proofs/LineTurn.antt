@@ -38,8 +38,8 @@ pub record Going {A : Type 0} (field : ℤ → Option A) (line : List ℕ) (old 
 
 -- where a number that was read ends
 number-end : {A : Type 0} (field : ℤ → Option A) (line : List ℕ) (at : ℕ) (x : A) (n : Number) → Sound line at n → itemOf field n ≡ some x → (at < endOf n) × (endOf n ≤ length line)
-number-end field line at x (N.Natural n e) h q = let w = within line at (wholeText (pos n)) (h .rest) (h .split) (text-there (pos n)) in omega (arith, h .end, text-there (pos n))
-number-end field line at x (N.Negative n e) h q = let w = within line at (wholeText (negsuc n)) (h .rest) (h .split) (text-there (negsuc n)) in omega (arith, h .end, text-there (negsuc n))
+number-end field line at x (N.Natural n e) h q = let w = within line at (wholeText (pos n)) (h .rest) (h .text) (text-there (pos n)) in omega (arith, h .ends, text-there (pos n))
+number-end field line at x (N.Negative n e) h q = let w = within line at (wholeText (negsuc n)) (h .rest) (h .text) (text-there (negsuc n)) in omega (arith, h .ends, text-there (negsuc n))
 number-end field line at x N.Bad h q = absurd (Option·none-ne-some x q)
 
 -- some numbers, and all there are

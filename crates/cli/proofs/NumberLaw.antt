@@ -11,9 +11,9 @@ use lib.Dec.{ltb}
 use lib.ListN.{length, drop, getD, length-append, length-drop}
 use lib.Seq.{getD-drop}
 use borrow.Author.Tests.{ltb-false, lt-ltb, le-ltb, ne-eqb}
-use Rattle.cli.specs.declared.number.Number.{Number}
-use Rattle.cli.specs.declared.number.Number.the-variants.{Natural, Negative}
+use Rattle.cli.specs.declared.number.Number.the-variants.{Natural}
 use Rattle.cli.specs.Decimal.{digits, decimal, wholeText}
+use Rattle.cli.specs.Number.{numberOf, Small, Ends}
 use Rattle.cli.specs.Computed.Number.{digitOf, digitsFrom, naturalFrom, negated, signedFrom, isEnd, endedIn, numberAt}
 use Rattle.cli.proofs.ListLaw.{behind, within}
 use Rattle.cli.proofs.DecimalLaw.{digits-zero, digits-less, decimal-is, decimal-positive, decimal-zero, by-tenths, Head, head}
@@ -95,16 +95,6 @@ read-natural at (suc n) rest p h =
     (ap (λ (t : List ℕ). digitsFrom 0 at (t ++ rest)) (sym (f .is)) ∙
     (read-digits at (suc n) p rest ∙ stop (suc n) (at + length (digits (suc n))) rest h))))
 
--- the number as the reader answers it
-abbrev pub numberOf : ℤ → ℕ → Number
-numberOf (pos n) e = Natural n e
-numberOf (negsuc n) e = Negative n e
-
--- what the reader holds
-abbrev pub Small : ℤ → Type 0
-Small (pos n) = n < 2 ^ 64
-Small (negsuc n) = suc n < 2 ^ 64
-
 -- no decimal begins with a minus
 decimal-head : (n : ℕ) → (c : ℕ) × (cs : List ℕ) × (decimal n ≡ c ∷ cs) × (45 < c)
 decimal-head zero = (48, [], decimal-zero, omega arith)
@@ -123,11 +113,6 @@ read-signed at (negsuc n) rest p h =
     let less : suc n - 1 ≡ n = omega arith in
     let moved : suc at + length (decimal (suc n)) ≡ at + suc (length (decimal (suc n))) = omega arith in
     rw (read-natural (suc at) (suc n) rest p h, ne-eqb (suc n) 0 (λ z. omega arith), less, moved)
-
--- what follows a number: nothing, or a comma
-abbrev pub Ends : List ℕ → Type 0
-Ends [] = Unit {0}
-Ends (b ∷ bs) = b ≡ 44
 
 ends-stop : (rest : List ℕ) → Ends rest → Stops rest
 ends-stop [] h = tt

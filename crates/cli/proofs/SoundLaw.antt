@@ -1,5 +1,5 @@
 -- The number reader is sound: what it reads stands at the place, and ends at a comma or at the line's end.
-use mathlib.Core.Path.{_≡_, refl, sym, ap, _∙_}
+use mathlib.Core.Path.{_≡_, refl, sym, ap, _∙_, subst}
 use mathlib.Core.Bool.{Bool, true, false, cond}
 use mathlib.Core.List.{List, [], _∷_, _++_, append-nil, append-assoc}
 use Prim.Native.Nat.{ℕ, zero, suc, _+_, _-_, _*_, _^_, _<_}
@@ -13,10 +13,11 @@ use borrow.Author.Tests.{ltb-true, ltb-false, lt-ltb, eqb-true, eqb-false}
 use Rattle.cli.specs.declared.number.Number.{Number}
 use Rattle.cli.specs.declared.number.Number.the-variants.{Natural, Negative, Bad}
 use Rattle.cli.specs.Decimal.{digits, decimal, wholeText}
+use Rattle.cli.specs.Number.{numberOf, Small, Ends, Standing, NumberContract}
 use Rattle.cli.specs.Computed.Number.{digitOf, digitsFrom, naturalFrom, negated, signedFrom, isEnd, endedIn, numberAt}
 use Rattle.cli.proofs.ListLaw.{behind}
 use Rattle.cli.proofs.DecimalLaw.{digits-zero, digits-more, decimal-positive, decimal-zero}
-use Rattle.cli.proofs.NumberLaw.{digit-byte, Small, Ends}
+use Rattle.cli.proofs.NumberLaw.{digit-byte, number-complete}
 
 -- ---- sound: what is read stands there
 record DigitsRead (n at : ℕ) (bs : List ℕ) (m e : ℕ) : Type 0 where
@@ -144,17 +145,9 @@ signed-sound at (b ∷ bs) = by-test (eqb b 45) refl
     by-test true e = minus at b bs (naturalFrom (suc at) bs) (eqb-true b 45 e) (natural-sound (suc at) bs)
     by-test false e = unsigned at (b ∷ bs) (naturalFrom at (b ∷ bs)) (natural-sound at (b ∷ bs))
 
--- A number was read: its text stands there, and behind it nothing, or a comma.
-pub record Found (line : List ℕ) (at : ℕ) (z : ℤ) (e : ℕ) : Type 0 where
-  pub rest : List ℕ
-  pub split : drop at line ≡ wholeText z ++ rest
-  pub ends : Ends rest
-  pub end : e ≡ at + length (wholeText z)
-  pub small : Small z
-
 abbrev pub Sound : List ℕ → ℕ → Number → Type 0
-Sound line at (Natural n e) = Found line at (pos n) e
-Sound line at (Negative n e) = Found line at (negsuc n) e
+Sound line at (Natural n e) = Standing line at (pos n) e
+Sound line at (Negative n e) = Standing line at (negsuc n) e
 Sound line at Bad = Unit {0}
 
 behind-ends : (line : List ℕ) (e : ℕ) (rest : List ℕ) → drop e line ≡ rest → isEnd line e ≡ true → Ends rest
@@ -166,13 +159,13 @@ behind-ends line e (b ∷ bs) q t =
     let is : eqb (getD line e 0) 44 ≡ true = rw (lt-ltb e (length line) (omega arith)) at t in
     sym g ∙ eqb-true (getD line e 0) 44 is
 
-found : (line : List ℕ) (at : ℕ) (z : ℤ) (e : ℕ) → isEnd line e ≡ true → Read at (drop at line) z e → Found line at z e
+found : (line : List ℕ) (at : ℕ) (z : ℤ) (e : ℕ) → isEnd line e ≡ true → Read at (drop at line) z e → Standing line at z e
 found line at z e t h =
     record {
       rest = h .rest;
-      split = h .split;
-      ends = behind-ends line e (h .rest) (ap (λ (k : ℕ). drop k line) (h .end) ∙ behind line at (wholeText z) (h .rest) (h .split)) t;
-      end = h .end;
+      text = h .split;
+      parted = behind-ends line e (h .rest) (ap (λ (k : ℕ). drop k line) (h .end) ∙ behind line at (wholeText z) (h .rest) (h .split)) t;
+      ends = h .end;
       small = h .small;
     }
 
@@ -193,3 +186,28 @@ number-ended line at Bad h = tt
 pub number-sound : (line : List ℕ) (at : ℕ) → Sound line at (numberAt line at)
 unfolding numberAt
 number-sound line at = number-ended line at (signedFrom at (drop at line)) (signed-sound at (drop at line))
+
+-- ---- exact
+sound-of : (line : List ℕ) (at : ℕ) (z : ℤ) (e : ℕ) → Sound line at (numberOf z e) → Standing line at z e
+sound-of line at (pos n) e h = h
+sound-of line at (negsuc n) e h = h
+
+never-bad : (z : ℤ) (e : ℕ) → numberOf z e ≡ Bad → ⊥
+never-bad (pos n) e q = let z : _≡_ {A = ℕ} 0 1 = cc in omega arith
+never-bad (negsuc n) e q = let z : _≡_ {A = ℕ} 0 1 = cc in omega arith
+
+none-bad : (line : List ℕ) (at : ℕ) (x : Number) → Sound line at x → ((z : ℤ) (e : ℕ) → Standing line at z e → ⊥) → x ≡ Bad
+none-bad line at (Natural n e) h f = absurd (f (pos n) e h)
+none-bad line at (Negative n e) h f = absurd (f (negsuc n) e h)
+none-bad line at Bad h f = refl
+
+stands-read : (line : List ℕ) (at : ℕ) (z : ℤ) (e : ℕ) → Standing line at z e → numberAt line at ≡ numberOf z e
+stands-read line at z e h = number-complete line at z (h .rest) (h .text) (h .small) (h .parted) ∙ ap (numberOf z) (sym (h .ends))
+
+pub number-contract : (line : List ℕ) (at : ℕ) → NumberContract line at (numberAt line at)
+number-contract line at =
+    record {
+      answer = refl;
+      reads = λ z e. ((λ q. sound-of line at z e (subst (Sound line at) q (number-sound line at))), stands-read line at z e);
+      bad = ((λ q z e h. never-bad z e (sym (stands-read line at z e h) ∙ q)), none-bad line at (numberAt line at) (number-sound line at));
+    }

@@ -1,5 +1,6 @@
--- What must be believed: numbers as text, the four lines, the answer's text, and the contract of `answer`.
+-- What must be believed: numbers as text, the four lines, the answer's text, and the contracts of the number reader and of `answer`.
 pub mod Decimal
+pub mod Number
 pub mod Input
 pub mod Output
 pub mod Contract

@@ -1,7 +1,8 @@
 // One number at a place of a line.
 ghost use mathlib.Core.Path.{_≡_};
 ghost use lib.ListN.{drop};
-ghost use Rattle.cli.specs.Computed.Number.{digitOf, digitsFrom, naturalFrom, negated, signedFrom, isEnd, endedIn, numberAt};
+ghost use Rattle.cli.specs.Computed.Number.{digitOf, digitsFrom, naturalFrom, negated, signedFrom, isEnd, endedIn};
+ghost use Rattle.cli.specs.Number.{NumberContract};
 
 // A number and the place behind it. `Negative` is -1 - `below`, so that there is one zero.
 pub enum Number {
@@ -126,7 +127,7 @@ fn ended(line: &[u8], number: Number) -> Number
 
 // The number that starts at a place of a line and ends at a comma or at the line's end.
 pub fn number_at(line: &[u8], at: usize) -> Number
-    ensures { λ r. ⌜ r ≡ numberAt (now (line .entry)) at ⌝ }
+    ensures { λ r. ⌜ NumberContract (now (line .entry)) at r ⌝ }
 {
     ended(line, signed_at(line, at))
 }

@@ -2,7 +2,7 @@
 use crate::number::Number;
 use crate::number::number_at;
 ghost use mathlib.Core.Path.{_≡_};
-ghost use Rattle.cli.specs.Computed.Number.{numberAt};
+ghost use Rattle.cli.specs.Number.{NumberContract};
 
 // The line that was lent, and how far the reader has come.
 pub struct NumberReader<'a> {
@@ -19,7 +19,7 @@ impl<'a> NumberReader<'a> {
 
     // The number that the reader has come to. With it the reader comes to the number's `end`.
     pub fn next(self) -> Number
-        ensures { λ r. ⌜ r ≡ numberAt (now (self .entry .line)) (self .entry .at) ⌝ }
+        ensures { λ r. ⌜ NumberContract (now (self .entry .line)) (self .entry .at) r ⌝ }
     {
         number_at(self.line, self.at)
     }
@@ -27,7 +27,7 @@ impl<'a> NumberReader<'a> {
 
 // For a caller that holds no reader: the number at a place.
 pub fn next_number(line: &[u8], at: usize) -> Number
-    ensures { λ r. ⌜ r ≡ numberAt (now (line .entry)) at ⌝ }
+    ensures { λ r. ⌜ NumberContract (now (line .entry)) at r ⌝ }
 {
     NumberReader::new(line, at).next()
 }

@@ -12,7 +12,7 @@ as-action-requires : tie.Need-as-action-requires
 as-action-requires c κs = search needs
 
 returns : tie.Need-returns
-returns c = c .as-action .ensures ∙ action-at-is _ _ _ (c .before .next-number .ensures)
+returns c = c .as-action .ensures ∙ action-at-is _ _ _ (c .before .next-number .ensures .answer)
 
 pub action-at-spec : {M : Type 1} → statement M
 action-at-spec = tie.close (tie.spec next-number-requires as-action-requires returns)

@@ -11,7 +11,7 @@ enum-known-value : tie.Need-enum-known-value
 enum-known-value c = search needs
 
 returns : tie.Need-returns
-returns c = limit-whole (c .before .before .before .before .before .before .args .line .now) _ (c .before .before .before .before .next-number .ensures) _ _ (c .before .before .value .given .1) (c .if1 .taken)
+returns c = limit-whole (c .before .before .before .before .before .before .args .line .now) _ (c .before .before .before .before .next-number .ensures .answer) _ _ (c .before .before .value .given .1) (c .if1 .taken)
 
 enum-told : tie.Need-enum-told
 enum-told c = search needs
@@ -20,13 +20,13 @@ enum-told-2 : tie.Need-enum-told-2
 enum-told-2 c = search needs
 
 returns-2 : tie.Need-returns-2
-returns-2 c = limit-more (c .before .before .before .before .before .before .args .line .now) _ (c .before .before .before .before .next-number .ensures) _ _ (c .before .before .value .given .1) (c .if1 .left)
+returns-2 c = limit-more (c .before .before .before .before .before .before .args .line .now) _ (c .before .before .before .before .next-number .ensures .answer) _ _ (c .before .before .value .given .1) (c .if1 .left)
 
 returns-3 : tie.Need-returns-3
-returns-3 c = limit-negative (c .before .before .before .before .args .line .now) _ (c .before .before .next-number .ensures) _ _ (c .enum-told .given .1)
+returns-3 c = limit-negative (c .before .before .before .before .args .line .now) _ (c .before .before .next-number .ensures .answer) _ _ (c .enum-told .given .1)
 
 returns-4 : tie.Need-returns-4
-returns-4 c = limit-bad (c .before .before .before .before .args .line .now) _ (c .before .before .next-number .ensures) (c .enum-told2 .given .1)
+returns-4 c = limit-bad (c .before .before .before .before .args .line .now) _ (c .before .before .next-number .ensures .answer) (c .enum-told2 .given .1)
 
 pub read-limit-spec : {M : Type 1} → statement M
 read-limit-spec =

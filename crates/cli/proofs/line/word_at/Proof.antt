@@ -12,7 +12,7 @@ as-word-requires : tie.Need-as-word-requires
 as-word-requires c κs = search needs
 
 returns : tie.Need-returns
-returns c = c .as-word .ensures ∙ word-at-is _ _ _ (c .before .next-number .ensures)
+returns c = c .as-word .ensures ∙ word-at-is _ _ _ (c .before .next-number .ensures .answer)
 
 pub word-at-spec : {M : Type 1} → statement M
 word-at-spec = tie.close (tie.spec next-number-requires as-word-requires returns)
