@@ -1,11 +1,11 @@
 -- What stands where an expression stands, by its tag, and what it is has.
 use mathlib.Core.Path.{_≡_, refl, sym, _∙_, ap, subst, subst⁻¹}
-use mathlib.Core.Bool.{true, _&&_}
+use mathlib.Core.Bool.{true, false, _&&_}
 use mathlib.Core.Option.{Option, some, Option·some-injective}
 use mathlib.Core.List.{List, [], _∷_, _++_, append-nil}
-use Prim.Native.Nat.{ℕ, _+_, _-_, _<_}
+use Prim.Native.Nat.{ℕ, suc, _+_, _<_}
 use native.Mathlib.Omega.{arith}
-use lib.Dec.{T, eqb, ltb, eqb→eq, ltb→lt}
+use lib.Dec.{T, eqb, ltb, eqb→eq, ltb→lt, lt→ltb}
 use lib.IntN.{ℤ, pos}
 use lib.ListN.{length, getD, length-append}
 use Rattle.minuska.specs.Basics.{_>>=_}
@@ -20,7 +20,7 @@ use Rattle.minuska.proofs.Tests.{came, and-left, and-right, and-both}
 use Rattle.minuska.proofs.WordLaw.{okay, okay-all}
 use Rattle.minuska.proofs.ValueLaw.{ground-value}
 use Rattle.minuska.proofs.PlaceLaw.{stands-first, stands-second, Two, two-words}
-use Rattle.value.specs.Evaluate.{HasValue, HaveValues}
+use Rattle.value.specs.Evaluate.{HasValue, HaveValues, firstOf, restOf}
 
 -- a term's words are its node's, then its children's; the words of the rest follow
 pub encode-first : (l : Label) (cs ss : Forest) → encode (node l cs ss) ≡ encode (node l cs nil) ++ encode ss
@@ -162,20 +162,20 @@ module _ (table config : List ℤ) (starts ends : List ℕ) (at : ℕ) (ρ : Val
       go (ground-is n h a b x) = x
 
   -- ---- a list of expressions that is not empty: the first, and the rest behind it
-  pub record MoreHere (es xs : Forest) (n : ℕ) : Type 0 where
+  pub record MoreHere (es xs : Forest) : Type 0 where
     pub expression : Term
     pub rest : Forest
     pub term : Term
     pub terms : Forest
     pub first : HasValue table config starts ends at ρ expression term
     pub behind : HaveValues table config starts ends (at + length (encode (single expression))) ρ rest terms
-    pub many : termCount rest ≡ n - 1
     pub are : cons term terms ≡ xs
-    pub long : length (encode es) ≡ length (encode (single expression)) + length (encode rest)
+    pub first-is : firstOf es ≡ single expression
+    pub rest-is : restOf es ≡ rest
 
-  pub is-more : (es xs : Forest) (n : ℕ) → HaveValues table config starts ends at ρ es xs → termCount es ≡ n → (n ≡ 0 → ⊥) → MoreHere es xs n
-  is-more nil xs n w c z = absurd (z (sym c))
-  is-more (node l cs ss) xs n w c z =
+  pub is-more : (es xs : Forest) → HaveValues table config starts ends at ρ es xs → true ≡ ltb 0 (termCount es) → MoreHere es xs
+  is-more nil xs w z = absurd (let h : 0 < 0 = ltb→lt 0 0 (subst T z tt) in omega arith)
+  is-more (node l cs ss) xs w z =
       let p = w .placed in
       let e : Term = record { label = l; children = cs } in
       let o = okay l cs ss (p .good) in
@@ -206,11 +206,11 @@ module _ (table config : List ℤ) (starts ends : List ℕ) (at : ℕ) (ρ : Val
           };
           are = r .1;
         };
-        many = omega arith;
         are = Option·some-injective (cons (k .0) (r .0)) xs (r .2);
-        long = ap length (encode-first l cs ss) ∙ length-append (encode (single e)) (encode ss);
+        first-is = refl;
+        rest-is = refl;
       }
 
-  pub no-more : (es xs : Forest) → HaveValues table config starts ends at ρ es xs → termCount es ≡ 0 → (es ≡ nil) × (xs ≡ nil)
+  pub no-more : (es xs : Forest) → HaveValues table config starts ends at ρ es xs → false ≡ ltb 0 (termCount es) → (es ≡ nil) × (xs ≡ nil)
   no-more nil xs w e = (refl, sym (Option·some-injective nil xs (w .are)))
-  no-more (node l cs ss) xs w e = absurd (let h : ⊥ = omega arith in h)
+  no-more (node l cs ss) xs w e = absurd (subst⁻¹ T e (lt→ltb 0 (suc (termCount ss)) (omega arith)))

@@ -1,8 +1,8 @@
--- The root that a ground node's two words say, and the two words of a value's root.
+-- The root that a ground node's two words say, and the two words of a term's root.
 use mathlib.Core.Path.{_≡_, refl, sym, _∙_, ap, ap₂}
 use mathlib.Core.Bool.{Bool, true, false, _&&_, cond}
-use mathlib.Core.List.{List, [], _++_}
-use Prim.Native.Nat.{ℕ, _+_, _-_, _^_, _<_}
+use mathlib.Core.List.{List}
+use Prim.Native.Nat.{ℕ, _+_, _^_, _<_}
 use native.Mathlib.Omega.{arith}
 use lib.Dec.{T, eqb, ltb, ltb→lt, lit<}
 use lib.IntN.{ℤ, pos, natAbs}
@@ -13,16 +13,14 @@ use mir.Facts.{toZ-ofZ}
 use Rattle.minuska.specs.Term.{Label, error, truth, whole, variable, call, symbol, nil, Term, single, termCount, role, groundAt, isGround}
 use Rattle.minuska.specs.Word.{tagWord, datumWord, ok, encode}
 use Rattle.minuska.specs.Computed.Read.{guess, childCount, means}
-use Rattle.minuska.specs.Computed.Place.{part}
+use Rattle.minuska.specs.Computed.Place.{Stands}
 use Rattle.minuska.proofs.Tests.{and-left, provided-some}
 use Rattle.minuska.proofs.WordLaw.{read-node, okay}
-use Rattle.minuska.proofs.PlaceLaw.{two-words}
 use Rattle.value.specs.Builtin.{scalarOf}
 use Rattle.value.specs.Root.{Head, HeadIs}
-use Rattle.value.specs.Value.{valueWords, IsValue}
 use Rattle.value.specs.declared.builtin.Scalar.the-variants.{Error, Truth, Whole}
-use Rattle.value.specs.declared.Value.the-variants.{Table, Configuration, Computed}
 use Rattle.value.proofs.Shift.{lit-pos}
+use Rattle.value.proofs.ExpressionLaw.{head-words}
 
 -- the label is the one that the words can only mean
 head-label : (t d : ℤ) (l : Label) (k : ℕ) → Head t d l k → guess (natAbs t) d ≡ l
@@ -75,36 +73,20 @@ symbol-head t d (call c) k h n₀ n₁ n₂ = absurd (h .ground)
 symbol-head t d (symbol s) k h n₀ n₁ n₂ =
     record { number = s; is = refl; small = ltb→lt s 4096 (and-left (ltb s 4096) (ltb k 8) (h .good)); datum = h .datum }
 
--- ---- the first two words of a term that stands as a part
-pub record PartHead (ws : List ℤ) (from : ℕ) (t : Term) : Type 0 where
-  pub room : from + 1 < length ws
-  pub head : Head (getD ws from (pos 0)) (getD ws (from + 1) (pos 0)) (t .label) (termCount (t .children))
-
-own-head : (t : Term) → T (ok (single t)) → T (isGround (single t)) → Head (tagWord (t .label) (termCount (t .children))) (datumWord (t .label)) (t .label) (termCount (t .children))
+-- ---- the first two words of a ground term, and of one that stands at a place
+pub own-head : (t : Term) → T (ok (single t)) → T (isGround (single t)) → Head (tagWord (t .label) (termCount (t .children))) (datumWord (t .label)) (t .label) (termCount (t .children))
 own-head t o g =
     let a = groundAt (role (t .label)) in
     let b = isGround (t .children) in
     record { good = okay (t .label) (t .children) nil o .allowed; ground = and-left a b (and-left (a && b) true g); tag = refl; datum = refl }
 
-pub part-head : (ws : List ℤ) (from to : ℕ) (t : Term) → T (ok (single t)) → T (isGround (single t)) → part ws from to ≡ encode (single t) → PartHead ws from t
-part-head ws from to t o g e =
-    let w = two-words ws from (to - from) (tagWord (t .label) (termCount (t .children))) (datumWord (t .label)) (encode (t .children) ++ []) e in
+pub record HeadThere (ws : List ℤ) (at : ℕ) (t : Term) : Type 0 where
+  pub room : at + 1 < length ws
+  pub head : Head (getD ws at (pos 0)) (getD ws (at + 1) (pos 0)) (t .label) (termCount (t .children))
+
+pub head-there : (ws : List ℤ) (at : ℕ) (t : Term) → T (ok (single t)) → T (isGround (single t)) → Stands ws at (encode (single t)) → HeadThere ws at t
+head-there ws at t o g s =
+    let w = head-words ws at (t .label) (t .children) nil s in
     let h = own-head t o g in
     let r = w .room in
     record { room = omega arith; head = record { good = h .good; ground = h .ground; tag = w .first; datum = w .second } }
-
-module _ (table config : List ℤ) (t : Term) where
-  pub table-head : (from to : ℕ) → IsValue table config (Table from to) t → PartHead table from t
-  unfolding valueWords
-  table-head from to v = part-head table from to t (v .good) (v .ground) (v .words)
-
-  pub configuration-head : (from to : ℕ) → IsValue table config (Configuration from to) t → PartHead config from t
-  unfolding valueWords
-  configuration-head from to v = part-head config from to t (v .good) (v .ground) (v .words)
-
-  pub computed-head : (x y : ℤ) → IsValue table config (Computed x y) t → Head x y (t .label) (termCount (t .children))
-  unfolding valueWords
-  computed-head x y v =
-      let h = own-head t (v .good) (v .ground) in
-      let e = v .words in
-      record { good = h .good; ground = h .ground; tag = ap (λ (l : List ℤ). getD l 0 (pos 0)) e; datum = ap (λ (l : List ℤ). getD l 1 (pos 0)) e }

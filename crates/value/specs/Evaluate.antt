@@ -3,13 +3,14 @@
 -- holds if both sides have the same value."
 use mathlib.Core.Path.{_≡_}
 use mathlib.Core.Logic.{_↔_}
+use mathlib.Core.Bool.{Bool}
 use mathlib.Core.Option.{some}
 use mathlib.Core.List.{List}
-use Prim.Native.Nat.{ℕ, _+_, _≤_}
-use lib.Dec.{T}
-use lib.IntN.{ℤ}
+use Prim.Native.Nat.{ℕ, _+_}
+use lib.Dec.{T, ltb}
+use lib.IntN.{ℤ, pos}
 use lib.ListN.{length, getD}
-use Rattle.minuska.specs.Term.{Forest, Term, single, termCount, Role, aVariable, aCall, plain, role}
+use Rattle.minuska.specs.Term.{Forest, nil, node, Term, single, termCount, Role, aVariable, aCall, plain, role}
 use Rattle.minuska.specs.Word.{ok, encode}
 use Rattle.minuska.specs.Function.{argument}
 use Rattle.minuska.specs.Rule.{isExpression}
@@ -17,12 +18,21 @@ use Rattle.minuska.specs.Satisfaction.{Valuation, SideCondition, Evaluates, Hol
 use Rattle.minuska.specs.Computed.Value.{value, values, holds}
 use Rattle.minuska.specs.Computed.Place.{Stands, Binds}
 use Rattle.value.specs.Builtin.{scalarOf}
-use Rattle.value.specs.Root.{computedOf}
+use Rattle.value.specs.Root.{Head, computedOf}
 use Rattle.value.specs.Value.{valueWords, IsValue}
 use Rattle.value.specs.declared.Value.the-variants.{Table, Configuration}
 use Rattle.value.specs.declared.Evaluated.{Evaluated}
-use Rattle.value.specs.declared.Roots.{Roots}
+use Rattle.value.specs.declared.Root.{Root}
 use Rattle.value.specs.declared.Tested.{Tested}
+
+-- the first term of a list, and the rest; nothing of an empty one
+abbrev pub firstOf : Forest → Forest
+firstOf nil = nil
+firstOf (node l cs ss) = node l cs nil
+
+abbrev pub restOf : Forest → Forest
+restOf nil = nil
+restOf (node l cs ss) = ss
 
 module _ (table config : List ℤ) (starts ends : List ℕ) (at : ℕ) where
   -- Good expressions stand at a place of the table, and a valuation is bound to parts of the configuration.
@@ -58,27 +68,41 @@ module _ (table config : List ℤ) (starts ends : List ℕ) (at : ℕ) where
     pub meant : (ρ : Valuation) (e t : Term) → HasValue ρ e t → Meant e t r
     pub satisfied : (ρ : Valuation) (e t : Term) → Placed ρ (single e) → Evaluates ρ (single e) (single t) → valueWords table config (r .value) ≡ encode (single t)
 
-  -- AN ARGUMENT LIST: the roots of its values, error where there is none.
+  -- THE ROOT OF ITS VALUE: the two words of its first node. A call's value is a leaf.
+  pub record RootMeant (e t : Term) (r : Root) : Type 0 where
+    pub head : Head (r .tag) (r .datum) (t .label) (termCount (t .children))
+    pub next : r .next ≡ at + length (encode (single e))
+
+  pub record RootContract (r : Root) : Type 0 where
+    pub meant : (ρ : Valuation) (e t : Term) → HasValue ρ e t → RootMeant e t r
+
+  pub record CallIn : Type 0 where
+    pub expression : ExpressionIn
+    pub tag : getD table at (pos 0) ≡ pos 4
+
+  pub record LeafIn : Type 0 where
+    pub expression : ExpressionIn
+    pub tag : getD table at (pos 0) ≡ pos 4 → ⊥
+
+  -- AN ARGUMENT LIST: the root of its first value, error where there is none. The rest of the list stands behind it.
   pub record HaveValues (ρ : Valuation) (es xs : Forest) : Type 0 where
     pub placed : Placed ρ es
     pub are : values ρ es ≡ some xs
 
-  pub record ArgumentsIn (count : ℕ) : Type 0 where
+  pub record ArgumentIn (wanted : Bool) : Type 0 where
     pub valuation : Valuation
     pub expressions : Forest
     pub terms : Forest
     pub have : HaveValues valuation expressions terms
-    pub many : termCount expressions ≡ count
-    pub few : count ≤ 3
+    pub some : wanted ≡ ltb 0 (termCount expressions)
 
-  pub record RootsMeant (es xs : Forest) (r : Roots) : Type 0 where
-    pub first : r .first ≡ scalarOf (argument 0 xs)
-    pub second : r .second ≡ scalarOf (argument 1 xs)
-    pub third : r .third ≡ scalarOf (argument 2 xs)
-    pub next : r .next ≡ at + length (encode es)
+  pub record FirstMeant (es xs : Forest) (r : Root) : Type 0 where
+    pub count : ℕ
+    pub head : Head (r .tag) (r .datum) (argument 0 xs) count
+    pub next : r .next ≡ at + length (encode (firstOf es))
 
-  pub record ArgumentsContract (count : ℕ) (r : Roots) : Type 0 where
-    pub meant : (ρ : Valuation) (es xs : Forest) → HaveValues ρ es xs → termCount es ≡ count → RootsMeant es xs r
+  pub record ArgumentContract (wanted : Bool) (r : Root) : Type 0 where
+    pub meant : (ρ : Valuation) (es xs : Forest) → HaveValues ρ es xs → wanted ≡ ltb 0 (termCount es) → FirstMeant es xs r
 
 -- A SIDE CONDITION: two expressions one behind the other, both with a value.
 module _ (table config : List ℤ) (starts ends : List ℕ) (at : ℕ) where

@@ -1,10 +1,8 @@
 -- The root of a ground term, from its first two words, and back.
 use mathlib.Core.Path.{_≡_}
-use mathlib.Core.List.{List}
-use Prim.Native.Nat.{ℕ, _+_, _<_}
+use Prim.Native.Nat.{ℕ}
 use lib.Dec.{T}
-use lib.IntN.{ℤ, pos}
-use lib.ListN.{length, getD}
+use lib.IntN.{ℤ}
 use Rattle.minuska.specs.Term.{Label, role, groundAt}
 use Rattle.minuska.specs.Word.{tagWord, datumWord, okHead}
 use Rattle.value.specs.Builtin.{scalarOf, labelOf}
@@ -28,11 +26,12 @@ pub record HeadIn (t d : ℤ) : Type 0 where
 pub record HeadIs (t d : ℤ) (r : Scalar) : Type 0 where
   pub is : (l : Label) (k : ℕ) → Head t d l k → r ≡ scalarOf l
 
--- the two words at a place are some ground node's
-pub record HeadAt (ws : List ℤ) (at : ℕ) : Type 0 where
-  pub room : at + 1 < length ws
-  pub head : HeadIn (getD ws at (pos 0)) (getD ws (at + 1) (pos 0))
-
 -- a scalar's two words
+unfoldable pub tagOf : Scalar → ℤ
+tagOf s = tagWord (labelOf s) 0
+
+unfoldable pub datumOf : Scalar → ℤ
+datumOf s = datumWord (labelOf s)
+
 unfoldable pub computedOf : Scalar → Value
 computedOf s = Computed (tagWord (labelOf s) 0) (datumWord (labelOf s))

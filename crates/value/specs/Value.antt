@@ -8,8 +8,6 @@ use lib.ListN.{length}
 use Rattle.minuska.specs.Term.{Term, single, isGround}
 use Rattle.minuska.specs.Word.{ok, encode}
 use Rattle.minuska.specs.Computed.Place.{part}
-use Rattle.value.specs.Builtin.{scalarOf}
-use Rattle.value.specs.declared.builtin.Scalar.{Scalar}
 use Rattle.value.specs.declared.Value.{Value}
 use Rattle.value.specs.declared.Value.the-variants.{Table, Configuration, Computed}
 
@@ -54,11 +52,3 @@ pub record IsValue (table config : List ℤ) (v : Value) (t : Term) : Type 0 whe
   pub ground : T (isGround (single t))
   pub words : valueWords table config v ≡ encode (single t)
   pub within : Within table config v
-
--- it is some ground term; whatever term it is, r is its root
-pub record ValueIn (table config : List ℤ) (v : Value) : Type 0 where
-  pub term : Term
-  pub is : IsValue table config v term
-
-pub record RootOf (table config : List ℤ) (v : Value) (r : Scalar) : Type 0 where
-  pub is : (t : Term) → IsValue table config v t → r ≡ scalarOf (t .label)

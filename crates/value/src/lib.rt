@@ -5,9 +5,9 @@ ghost use Prim.Native.Nat.{_+_, _≤_};
 ghost use lib.IntN.{pos};
 ghost use lib.ListN.{length, getD};
 ghost use Rattle.minuska.specs.Computed.Place.{Decides};
-ghost use Rattle.value.specs.Root.{HeadIn, HeadIs, HeadAt, computedOf};
-ghost use Rattle.value.specs.Value.{valueWords, partWords, ownWords, Within, sizeOf, Ordered, ValueIn, RootOf};
-ghost use Rattle.value.specs.Evaluate.{ExpressionIn, EvaluateContract, ArgumentsIn, ArgumentsContract, ConditionIn, ConditionContract};
+ghost use Rattle.value.specs.Root.{HeadIn, HeadIs, tagOf, datumOf};
+ghost use Rattle.value.specs.Value.{valueWords, partWords, ownWords, Within, sizeOf, Ordered};
+ghost use Rattle.value.specs.Evaluate.{ExpressionIn, EvaluateContract, CallIn, LeafIn, RootContract, ArgumentIn, ArgumentContract, ConditionIn, ConditionContract};
 ghost use Rattle.value.specs.Copy.{written, PutContract};
 
 pub mod builtin; // builtin.rt: the fifteen functions
@@ -25,12 +25,12 @@ pub struct Evaluated {
     pub next: usize,
 }
 
-// The roots of up to three arguments' values, and the place behind the arguments.
-pub struct Roots {
-    pub first: Scalar,
-    pub second: Scalar,
-    pub third: Scalar,
+// The root of an expression's value, tag and datum, and the place behind the expression. The place lies between the two words: they are written one by one, and
+// would else be read back as one, for which a machine has to wait.
+pub struct Root {
+    pub tag: i64,
     pub next: usize,
+    pub datum: i64,
 }
 
 // Whether a side condition holds, and the place behind it.
@@ -62,16 +62,10 @@ pub fn evaluate(
         };
     }
     if tag == 4 {
-        let code = datum as usize;
-        let count = term::arity(code);
-        let roots = arguments(table, configuration, at + 2, count, starts, ends);
-        let a = roots.first;
-        let b = roots.second;
-        let c = roots.third;
-        let value = computed(builtin::apply(code, a, b, c));
+        let root = call(table, configuration, at, starts, ends);
         return Evaluated {
-            value: value,
-            next: roots.next,
+            value: Value::Computed(root.tag, root.datum),
+            next: root.next,
         };
     }
     let end = term::ground_end(table, at);
@@ -81,78 +75,110 @@ pub fn evaluate(
     }
 }
 
-// The roots of the values of the `count` expressions that stand from a place on.
-pub fn arguments(
+// The value of a call, which is a leaf, from the roots of its arguments: three at most, one behind the other.
+pub fn call(
     table: &[i64],
     configuration: &[i64],
     at: usize,
-    count: usize,
     starts: &[usize; 16],
     ends: &[usize; 16],
-) -> Roots
-    requires { ⌜ ArgumentsIn (now table) (now configuration) (now starts) (now ends) at count ⌝ }
-    ensures { λ r. ⌜ ArgumentsContract (now (table .entry)) (now (configuration .entry)) (now (starts .entry)) (now (ends .entry)) at count r ⌝ }
+) -> Root
+    requires { ⌜ CallIn (now table) (now configuration) (now starts) (now ends) at ⌝ }
+    ensures { λ r. ⌜ RootContract (now (table .entry)) (now (configuration .entry)) (now (starts .entry)) (now (ends .entry)) at r ⌝ }
 {
-    if count == 0 {
-        return Roots {
-            first: Scalar::Error,
-            second: Scalar::Error,
-            third: Scalar::Error,
-            next: at,
+    let code = term::word(table, at + 1) as usize;
+    let count = term::arity(code);
+    let a = argument(table, configuration, at + 2, 0 < count, starts, ends);
+    let b = argument(table, configuration, a.next, 1 < count, starts, ends);
+    let c = argument(table, configuration, b.next, 2 < count, starts, ends);
+    let value = builtin::apply(
+        code,
+        scalar(a.tag, a.datum),
+        scalar(b.tag, b.datum),
+        scalar(c.tag, c.datum),
+    );
+    Root {
+        tag: tag_of(value),
+        next: c.next,
+        datum: datum_of(value),
+    }
+}
+
+// The root of the first of the arguments that stand from a place on; where none is wanted, error. A call gets the slices as parts, [..], so that this function can
+// keep its own in registers.
+pub fn argument(
+    table: &[i64],
+    configuration: &[i64],
+    at: usize,
+    wanted: bool,
+    starts: &[usize; 16],
+    ends: &[usize; 16],
+) -> Root
+    requires { ⌜ ArgumentIn (now table) (now configuration) (now starts) (now ends) at wanted ⌝ }
+    ensures { λ r. ⌜ ArgumentContract (now (table .entry)) (now (configuration .entry)) (now (starts .entry)) (now (ends .entry)) at wanted r ⌝ }
+{
+    if wanted {
+        if term::word(table, at) == 4 {
+            return call(&table[..], &configuration[..], at, starts, ends);
+        }
+        return leaf(table, configuration, at, starts, ends);
+    }
+    Root {
+        tag: 0,
+        next: at,
+        datum: 0,
+    }
+}
+
+// The root of a variable's or a literal's value.
+pub fn leaf(
+    table: &[i64],
+    configuration: &[i64],
+    at: usize,
+    starts: &[usize; 16],
+    ends: &[usize; 16],
+) -> Root
+    requires { ⌜ LeafIn (now table) (now configuration) (now starts) (now ends) at ⌝ }
+    ensures { λ r. ⌜ RootContract (now (table .entry)) (now (configuration .entry)) (now (starts .entry)) (now (ends .entry)) at r ⌝ }
+{
+    let tag = term::word(table, at);
+    let datum = term::word(table, at + 1);
+    if tag == 3 {
+        let start = starts[datum as usize];
+        return Root {
+            tag: term::word(configuration, start),
+            next: at + 2,
+            datum: term::word(configuration, start + 1),
         };
     }
-    let argument = evaluate(table, configuration, at, starts, ends);
-    let value = argument.value;
-    let first = root(table, configuration, value);
-    let rest = arguments(table, configuration, argument.next, count - 1, starts, ends);
-    let second = rest.first;
-    let third = rest.second;
-    Roots {
-        first: first,
-        second: second,
-        third: third,
-        next: rest.next,
+    Root {
+        tag: tag,
+        next: term::ground_end(table, at),
+        datum: datum,
     }
 }
 
-// The value of a built-in function, as words.
-pub fn computed(s: Scalar) -> Value
-    ensures { λ r. ⌜ r ≡ computedOf s ⌝ }
+// The two words of a value that a built-in function gives.
+pub fn tag_of(s: Scalar) -> i64
+    ensures { λ r. ⌜ r ≡ tagOf s ⌝ }
 {
     match s {
-        Scalar::Error => Value::Computed(0, 0),
-        Scalar::Truth(b) => {
-            if b {
-                Value::Computed(1, 1)
-            } else {
-                Value::Computed(1, 0)
-            }
-        }
-        Scalar::Whole(z) => Value::Computed(2, z),
-        Scalar::Symbol(n) => Value::Computed(8, n as i64),
+        Scalar::Error => 0,
+        Scalar::Truth(_) => 1,
+        Scalar::Whole(_) => 2,
+        Scalar::Symbol(_) => 8,
     }
 }
 
-// The root of a value.
-pub fn root(table: &[i64], configuration: &[i64], v: Value) -> Scalar
-    requires { ⌜ ValueIn (now table) (now configuration) v ⌝ }
-    ensures { λ r. ⌜ RootOf (now (table .entry)) (now (configuration .entry)) v r ⌝ }
+pub fn datum_of(s: Scalar) -> i64
+    ensures { λ r. ⌜ r ≡ datumOf s ⌝ }
 {
-    match v {
-        Value::Table(start, _) => root_at(table, start),
-        Value::Configuration(start, _) => root_at(configuration, start),
-        Value::Computed(tag, datum) => scalar(tag, datum),
+    match s {
+        Scalar::Error => 0,
+        Scalar::Truth(b) => { if b { 1 } else { 0 } }
+        Scalar::Whole(z) => z,
+        Scalar::Symbol(n) => n as i64,
     }
-}
-
-// The root of the ground term that stands at a place.
-pub fn root_at(words: &[i64], at: usize) -> Scalar
-    requires { ⌜ HeadAt (now words) at ⌝ }
-    ensures { λ r. ⌜ HeadIs (getD (now (words .entry)) at (pos 0)) (getD (now (words .entry)) (at + 1) (pos 0)) r ⌝ }
-{
-    let tag = term::word(words, at);
-    let datum = term::word(words, at + 1);
-    scalar(tag, datum)
 }
 
 // What a ground node's two words say.
