@@ -8,7 +8,7 @@ use native.Mathlib.Omega.{arith}
 use native.Mathlib.Decide.{ℕ-discrete}
 use lib.Dec.{leb}
 use lib.IntN.{ℤ}
-use lib.ListN.{getD, replicate}
+use lib.ListN.{length, getD, replicate}
 use Rattle.minuska.specs.Basics.{present}
 use Rattle.minuska.specs.Term.{Forest, nil, node, Term, single, nodeCount, isGround}
 use Rattle.minuska.specs.Word.{ok}
@@ -46,6 +46,7 @@ begins {table} {at} {end} {config} starts {l} {g} x y =
         groundGood = and-left a b z;
         groundGround = and-right a b z;
         groundStands = subst⁻¹ (Stands config 0) (y .words) (stands-whole config);
+        groundEnds = omega (arith, ap length (y .words));
         asMany = refl;
         binds = record { places = λ v t e. absurd (Option·none-ne-some t e) };
         free = λ v e. zeros 16 v;
@@ -54,8 +55,8 @@ begins {table} {at} {end} {config} starts {l} {g} x y =
     }
 
 -- one turn, by its answer
-pub turn : {table : List ℤ} {i : ℕ} {config : List ℤ} {j : ℕ} {starts ends : List ℕ} {r s : Turn} → Turned table i config j starts ends r → r ≡ s → {end : ℕ} {o : Option Valuation} → i < end → Walking table end config i j starts ends o → After table end config i j starts ends o s
-turn {table} {i} {config} {j} {starts} {ends} t e {end} {o} h w = subst (After table end config i j starts ends o) e (t .after end o h w)
+pub turn : {table : List ℤ} {i end : ℕ} {config : List ℤ} {j : ℕ} {starts ends : List ℕ} {r s : Turn} → Turned table i end config j starts ends r → r ≡ s → {o : Option Valuation} → i < end → Walking table end config i j starts ends o → After table end config i j starts ends o s
+turn {table} {i} {end} {config} {j} {starts} {ends} t e {o} h w = subst (After table end config i j starts ends o) e (t .after o h w)
 
 -- at the left's end everything is matched
 pub ends-matched : {table : List ℤ} {end : ℕ} {config : List ℤ} {i j : ℕ} {starts ends : List ℕ} {l g : Term} → end ≤ i → Walking table end config i j starts ends (tryMatch (single l) (single g) unbound) → Matched config l g starts ends true

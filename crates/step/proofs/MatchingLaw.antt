@@ -7,7 +7,7 @@ use Prim.Native.Nat.{ℕ, _+_, _-_, _<_, _≤_}
 use native.Mathlib.Omega.{arith}
 use lib.Dec.{T}
 use lib.IntN.{ℤ, pos}
-use lib.ListN.{length, getD}
+use lib.ListN.{length, getD, length-append}
 use Rattle.minuska.specs.Basics.{_>>=_, sameWhole}
 use Rattle.minuska.specs.Term.{Label, Forest, nil, node, Term, single, termCount, role, groundAt}
 use Rattle.minuska.specs.Word.{tagWord, datumWord, okHead, ok, encode}
@@ -16,11 +16,11 @@ use Rattle.minuska.specs.Rule.{symbolicAt, isSymbolic}
 use Rattle.minuska.specs.Computed.Read.{readNode}
 use Rattle.minuska.specs.Computed.Match.{tryMatch}
 use Rattle.minuska.specs.Computed.Walk.{matchWords}
-use Rattle.minuska.specs.Computed.Place.{Stands, GroundAt}
+use Rattle.minuska.specs.Computed.Place.{Stands, GroundAt, GroundEnds}
 use Rattle.minuska.proofs.Tests.{same-whole, whole-same}
 use Rattle.minuska.proofs.WordLaw.{okay, okay-all, head-okay, read-node, appended, encode-appended}
 use Rattle.minuska.proofs.WalkLaw.{flat}
-use Rattle.minuska.proofs.PlaceLaw.{stands-word, stands-head, stands-first, stands-second}
+use Rattle.minuska.proofs.PlaceLaw.{stands-word, stands-head, stands-first, stands-second, stands-unique}
 use Rattle.minuska.proofs.AppendedLaw.{first-words, appended-count, appended-ok, labels, labels-all, appended-labels}
 use Rattle.step.specs.Matching.{Walk, Walking, TurnFrom, Turned}
 use Rattle.step.specs.declared.matching.Turn.the-variants.{Same, Misfit}
@@ -56,6 +56,15 @@ same-count : (l g : Label) (k m : ℕ) → T (okHead l k) → T (okHead g m) →
 same-count l g k m x y p q =
     ap (λ (z : Label × ℕ). z .1)
     (Option·some-injective (l, k) (g, m) (sym (read-node l k x) ∙ (ap₂ readNode p q ∙ read-node g m y)))
+
+-- no words, no terms
+pub childless : (f : Forest) → termCount f ≡ 0 → f ≡ nil
+childless nil c = refl
+childless (node l cs ss) c = absurd (let f : ⊥ = omega (arith, c) in f)
+
+no-words : (f : Forest) → length (encode f) ≡ 0 → termCount f ≡ 0
+no-words nil e = refl
+no-words (node l cs ss) e = absurd (let f : ⊥ = omega (arith, e) in f)
 
 -- ---- a node of each before its rest
 module _ {table : List ℤ} {end : ℕ} {config : List ℤ} {i j : ℕ} {starts ends : List ℕ} {o : Option Valuation} where
@@ -133,6 +142,7 @@ module _ {table : List ℤ} {end : ℕ} {config : List ℤ} {i j : ℕ} {starts 
             groundGood = sound;
             groundGround = appended-labels (λ z. groundAt (role z)) gs gss (d .children) (d .rest);
             groundStands = rw (encode-appended gs gss) (stands-second (tagWord g (termCount gs) ∷ datumWord g ∷ []) (encode gs ++ encode gss) (w .groundStands));
+            groundEnds = omega (arith, w .groundEnds, ap length (encode-appended gs gss));
             asMany = many;
             binds = w .binds;
             free = w .free;
@@ -155,20 +165,29 @@ module _ {table : List ℤ} {end : ℕ} {config : List ℤ} {i j : ℕ} {starts 
         pick false b p q = sym (plain-outcome f false (ap (λ (z : Bool). z && sameWhole (datumWord l) (datumWord g)) p))
 
 -- ---- what one turn answers at a plain node
-module _ {table : List ℤ} {i : ℕ} {config : List ℤ} {j : ℕ} {starts ends : List ℕ} (plain : word table i ≡ pos 3 → ⊥) where
-  pub turned-same : word table i ≡ word config j → word table (i + 1) ≡ word config (j + 1) → Turned table i config j starts ends Same
-  turned-same p q = record { after = λ end o h w. heads w h (λ l ls lss g gs gss σ k. after-same l ls lss g gs gss σ k plain p q) }
+module _ {table : List ℤ} {i end : ℕ} {config : List ℤ} {j : ℕ} {starts ends : List ℕ} (plain : word table i ≡ pos 3 → ⊥) where
+  pub turned-same : word table i ≡ word config j → word table (i + 1) ≡ word config (j + 1) → Turned table i end config j starts ends Same
+  turned-same p q = record { after = λ o h w. heads w h (λ l ls lss g gs gss σ k. after-same l ls lss g gs gss σ k plain p q) }
 
-  pub turned-other : (word table i ≡ word config j → word table (i + 1) ≡ word config (j + 1) → ⊥) → Turned table i config j starts ends Misfit
-  turned-other f = record { after = λ end o h w. heads w h (λ l ls lss g gs gss σ k. after-other l ls lss g gs gss σ k plain f) }
+  pub turned-other : (word table i ≡ word config j → word table (i + 1) ≡ word config (j + 1) → ⊥) → Turned table i end config j starts ends Misfit
+  turned-other f = record { after = λ o h w. heads w h (λ l ls lss g gs gss σ k. after-other l ls lss g gs gss σ k plain f) }
 
 -- both have a node's two words there
 pub record Room (table : List ℤ) (i : ℕ) (config : List ℤ) (j : ℕ) : Type 0 where
   pub left : i + 2 ≤ length table
   pub ground : j + 2 ≤ length config
 
-pub room : {table : List ℤ} {i : ℕ} {config : List ℤ} {j : ℕ} {starts ends : List ℕ} → TurnFrom table i config j starts ends → Room table i config j
-room {table} {i} {config} {j} t = heads (t .walking) (t .before) λ l ls lss g gs gss σ k. record { left = omega (arith, k .leftStands .within); ground = omega (arith, k .groundStands .within) }
+pub room : {table : List ℤ} {i end : ℕ} {config : List ℤ} {j : ℕ} {starts ends : List ℕ} → TurnFrom table i end config j starts ends → Room table i config j
+room {table} {i} {end} {config} {j} t = heads (t .walking) (t .before) λ l ls lss g gs gss σ k. record { left = omega (arith, k .leftStands .within); ground = omega (arith, k .groundStands .within) }
 
-pub ground-at : {table : List ℤ} {i : ℕ} {config : List ℤ} {j : ℕ} {starts ends : List ℕ} → TurnFrom table i config j starts ends → GroundAt config j
+pub ground-at : {table : List ℤ} {i end : ℕ} {config : List ℤ} {j : ℕ} {starts ends : List ℕ} → TurnFrom table i end config j starts ends → GroundAt config j
 ground-at t = heads (t .walking) (t .before) term-at
+
+-- at the left's last node the configuration's term is all the rest
+pub last-ends : {table : List ℤ} {i end : ℕ} {config : List ℤ} {j : ℕ} {starts ends : List ℕ} → TurnFrom table i end config j starts ends → i + 2 ≡ end → GroundEnds config j (length config)
+last-ends {table} {i} {end} {config} {j} t last = heads (t .walking) (t .before) λ l ls lss g gs gss σ k.
+    let x = term-at l ls lss g gs gss σ k in
+    let p : length (encode lss) ≡ 0 = omega (arith, k .leftEnds, length-append (encode ls) (encode lss)) in
+    let n : termCount gss ≡ 0 = omega (arith, no-words lss p, k .asMany) in
+    let e : length config ≡ j + length (encode (single (x .term))) = subst (λ (f : Forest). length config ≡ j + length (encode (node g gs f))) (childless gss n) (k .groundEnds) in
+    record { ends = λ s good ground stands. e ∙ ap (λ (y : Term). j + length (encode (single y))) (stands-unique (x .term) s (x .good) good (x .stands) stands) }

@@ -9,7 +9,7 @@ use native.Mathlib.Decide.{ℕ-discrete}
 use lib.Dec.{T, eqb, ltb, eqb→eq, ltb→lt}
 use lib.IntN.{ℤ, pos, natAbs}
 use lib.Signed.{nonNeg}
-use lib.ListN.{length, take, drop, getD}
+use lib.ListN.{length, take, drop, getD, length-append}
 use borrow.Author.Tests.{eq-eqb, ne-eqb}
 use Rattle.minuska.specs.Basics.{_>>=_, provided}
 use Rattle.minuska.specs.Term.{Label, error, truth, whole, variable, call, symbol, Forest, nil, node, Term, single, termCount, role, groundAt}
@@ -21,10 +21,10 @@ use Rattle.minuska.specs.Computed.Place.{part, Stands, GroundAt, GroundEnds, Bo
 use Rattle.minuska.proofs.Tests.{and-left, and-right, provided-true, same-term, term-same}
 use Rattle.minuska.proofs.WordLaw.{okay}
 use Rattle.minuska.proofs.PlaceLaw.{stands-second, stands-unique}
-use Rattle.minuska.proofs.AppendedLaw.{labels}
+use Rattle.minuska.proofs.AppendedLaw.{first-words, labels}
 use Rattle.step.specs.Matching.{Walk, Walking, TurnFrom, Put, Turned}
 use Rattle.step.specs.declared.matching.Turn.the-variants.{Bind, Again, Misfit}
-use Rattle.step.proofs.MatchingLaw.{word, has-part, heads, left-tag, left-datum, words-here, term-at}
+use Rattle.step.proofs.MatchingLaw.{word, childless, has-part, heads, left-tag, left-datum, words-here, term-at}
 
 -- the tag 3 is a variable's
 tag-three : (l : Label) (k : ℕ) → tagWord l k ≡ pos 3 → (v : ℕ) × (l ≡ variable v)
@@ -34,10 +34,6 @@ tag-three (whole n) k e = absurd (let z : _≡_ {A = ℕ} 2 3 = ap natAbs e in l
 tag-three (variable v) k e = (v, refl)
 tag-three (call c) k e = absurd (let z : _≡_ {A = ℕ} 4 3 = ap natAbs e in let f : ⊥ = omega arith in f)
 tag-three (symbol s) k e = absurd (let z : 8 + k ≡ 3 = ap natAbs e in let f : ⊥ = omega arith in f)
-
-childless : (f : Forest) → termCount f ≡ 0 → f ≡ nil
-childless nil c = refl
-childless (node l cs ss) c = absurd (let f : ⊥ = omega (arith, c) in f)
 
 module _ {table : List ℤ} {end : ℕ} {config : List ℤ} {i j : ℕ} {starts ends : List ℕ} {o : Option Valuation} where
   -- the walk is at a variable, if the tag says so
@@ -81,6 +77,7 @@ module _ {table : List ℤ} {end : ℕ} {config : List ℤ} {i j : ℕ} {starts 
             groundGood = b .rest;
             groundGround = d .rest;
             groundStands = rw at (stands-second (encode (single here)) (encode gss) (words-here (variable v) nil lss g gs gss σ w));
+            groundEnds = omega (arith, w .groundEnds, ap length (first-words g gs gss), length-append (encode (single here)) (encode gss));
             asMany = omega (arith, w .asMany);
             binds = binds;
             free = free;
@@ -160,26 +157,26 @@ module _ {table : List ℤ} {end : ℕ} {config : List ℤ} {i j : ℕ} {starts 
           omega (arith, bound .ends, ap (λ (t : Term). length (encode (single t))) q, found .stands .within)
 
 -- ---- what one turn answers at a variable
-module _ {table : List ℤ} {i : ℕ} {config : List ℤ} {j : ℕ} {starts ends : List ℕ} {v : ℕ} (three : word table i ≡ pos 3) (number : v ≡ natAbs (word table (i + 1))) where
-  pub turned-bind : getD ends v 0 ≡ 0 → {e : ℕ} → GroundEnds config j e → Turned table i config j starts ends (Bind v e)
+module _ {table : List ℤ} {i end : ℕ} {config : List ℤ} {j : ℕ} {starts ends : List ℕ} {v : ℕ} (three : word table i ≡ pos 3) (number : v ≡ natAbs (word table (i + 1))) where
+  pub turned-bind : getD ends v 0 ≡ 0 → {e : ℕ} → GroundEnds config j e → Turned table i end config j starts ends (Bind v e)
   turned-bind z {e} t =
-      record { after = λ end o h w. at-variable w h three number λ lss g gs gss σ low d k. let x = found v lss g gs gss σ k in let a = t .ends (x .term) (x .good) (x .ground) (x .stands) in (low, omega (arith, a), after-bind v lss g gs gss σ k low e z a) }
+      record { after = λ o h w. at-variable w h three number λ lss g gs gss σ low d k. let x = found v lss g gs gss σ k in let a = t .ends (x .term) (x .good) (x .ground) (x .stands) in (low, omega (arith, a), after-bind v lss g gs gss σ k low e z a) }
 
   module _ (z : getD ends v 0 ≡ 0 → ⊥) {e : ℕ} (at : e ≡ j + (getD ends v 0 - getD starts v 0)) where
-    pub turned-again : e ≤ length config → part config (getD starts v 0) (getD ends v 0) ≡ part config j e → Turned table i config j starts ends (Again e)
+    pub turned-again : e ≤ length config → part config (getD starts v 0) (getD ends v 0) ≡ part config j e → Turned table i end config j starts ends (Again e)
     turned-again h same =
-        record { after = λ end o m w. at-variable w m three number λ lss g gs gss σ low d k. let x = has-part k v z in after-again v lss g gs gss σ k (x .0) (x .1) e at h same }
+        record { after = λ o m w. at-variable w m three number λ lss g gs gss σ low d k. let x = has-part k v z in after-again v lss g gs gss σ k (x .0) (x .1) e at h same }
 
-    pub turned-differs : (part config (getD starts v 0) (getD ends v 0) ≡ part config j e → ⊥) → Turned table i config j starts ends Misfit
+    pub turned-differs : (part config (getD starts v 0) (getD ends v 0) ≡ part config j e → ⊥) → Turned table i end config j starts ends Misfit
     turned-differs f =
-        record { after = λ end o m w. at-variable w m three number λ lss g gs gss σ low d k. let x = has-part k v z in after-other-words v lss g gs gss σ k (x .0) (x .1) e at f }
+        record { after = λ o m w. at-variable w m three number λ lss g gs gss σ low d k. let x = has-part k v z in after-other-words v lss g gs gss σ k (x .0) (x .1) e at f }
 
-    pub turned-long : length config < e → Turned table i config j starts ends Misfit
+    pub turned-long : length config < e → Turned table i end config j starts ends Misfit
     turned-long h =
-        record { after = λ end o m w. at-variable w m three number λ lss g gs gss σ low d k. let x = has-part k v z in after-long v lss g gs gss σ k (x .0) (x .1) e at h }
+        record { after = λ o m w. at-variable w m three number λ lss g gs gss σ low d k. let x = has-part k v z in after-long v lss g gs gss σ k (x .0) (x .1) e at h }
 
   -- the variable's number is below 16, and its part, if it has one, lies in the configuration
-  module _ (t : TurnFrom table i config j starts ends) where
+  module _ (t : TurnFrom table i end config j starts ends) where
     pub number-fits : T (nonNeg (word table (i + 1))) × (v < 16)
     number-fits = at-variable (t .walking) (t .before) three number λ lss g gs gss σ low d k. (subst⁻¹ (λ (y : ℤ). T (nonNeg y)) d tt, low)
 

@@ -45,7 +45,7 @@ pub record MatchContract (table : List ℤ) (at end : ℕ) (config : List ℤ) (
   pub keeps : (v : ℕ) → getD ends′ v 0 ≡ 0 → getD starts′ v 0 ≡ getD starts v 0
 
 -- The walk has come to word i of the table and word j of the configuration. There stand the rest of the left, f, and the rest of the configuration,
--- g, as many terms; σ, which the arrays hold, binds the variables met; and the match of the rest is the outcome of the whole.
+-- g, as many terms, each up to its end; σ, which the arrays hold, binds the variables met; and the match of the rest is the outcome of the whole.
 pub record Walk (table : List ℤ) (end : ℕ) (config : List ℤ) (i j : ℕ) (starts ends : List ℕ) (f g : Forest) (σ : Valuation) (o : Option Valuation) : Type 0 where
   pub leftGood : T (ok f)
   pub leftSymbolic : T (isSymbolic f)
@@ -54,6 +54,7 @@ pub record Walk (table : List ℤ) (end : ℕ) (config : List ℤ) (i j : ℕ) (
   pub groundGood : T (ok g)
   pub groundGround : T (isGround g)
   pub groundStands : Stands config j (encode g)
+  pub groundEnds : length config ≡ j + length (encode g)
   pub asMany : termCount f ≡ termCount g
   pub binds : Binds config starts ends σ
   pub free : (v : ℕ) → σ v ≡ none → getD ends v 0 ≡ 0
@@ -71,8 +72,7 @@ pub record Put (old new : List ℕ) (v x : ℕ) : Type 0 where
   pub others : (u : ℕ) → (u ≡ v → ⊥) → getD new u 0 ≡ getD old u 0
 
 -- One turn, from any such place before the left's end: the walk goes on behind what was found, with the same outcome; or nothing matches.
-pub record TurnFrom (table : List ℤ) (i : ℕ) (config : List ℤ) (j : ℕ) (starts ends : List ℕ) : Type 0 where
-  pub end : ℕ
+pub record TurnFrom (table : List ℤ) (i end : ℕ) (config : List ℤ) (j : ℕ) (starts ends : List ℕ) : Type 0 where
   pub before : i < end
   pub outcome : Option Valuation
   pub walking : Walking table end config i j starts ends outcome
@@ -84,5 +84,5 @@ After table end config i j starts ends o (Bind v e) =
 After table end config i j starts ends o (Again e) = Walking table end config (i + 2) e starts ends o
 After table end config i j starts ends o Misfit = o ≡ none
 
-pub record Turned (table : List ℤ) (i : ℕ) (config : List ℤ) (j : ℕ) (starts ends : List ℕ) (r : Turn) : Type 0 where
-  pub after : (end : ℕ) (o : Option Valuation) → i < end → Walking table end config i j starts ends o → After table end config i j starts ends o r
+pub record Turned (table : List ℤ) (i end : ℕ) (config : List ℤ) (j : ℕ) (starts ends : List ℕ) (r : Turn) : Type 0 where
+  pub after : (o : Option Valuation) → i < end → Walking table end config i j starts ends o → After table end config i j starts ends o r

@@ -18,16 +18,18 @@ pub enum Turn {
 }
 
 // One turn of the walk: the left's node at word i of the table against the configuration's term at word j. A variable with end 0 has no part.
+// At the left's last node one term of the configuration is still to come, so it is all the rest, and its end is known without a walk over it.
 fn turn_at(
     table: &[i64],
     i: usize,
+    end: usize,
     configuration: &[i64],
     j: usize,
     starts: &[usize; 16],
     ends: &[usize; 16],
 ) -> Turn
-    requires { ⌜ TurnFrom (now table) i (now configuration) j (now starts) (now ends) ⌝ }
-    ensures { λ r. ⌜ Turned (now (table .entry)) i (now (configuration .entry)) j (now (starts .entry)) (now (ends .entry)) r ⌝ }
+    requires { ⌜ TurnFrom (now table) i end (now configuration) j (now starts) (now ends) ⌝ }
+    ensures { λ r. ⌜ Turned (now (table .entry)) i end (now (configuration .entry)) j (now (starts .entry)) (now (ends .entry)) r ⌝ }
 {
     let t = term::word(table, i);
     let d = term::word(table, i + 1);
@@ -43,16 +45,19 @@ fn turn_at(
     let v = d as usize;
     let to = ends[v];
     if to == 0 {
-        let end = term::ground_end(configuration, j);
-        return Turn::Bind(v, end);
+        if i + 2 == end {
+            return Turn::Bind(v, configuration.len());
+        }
+        let e = term::ground_end(configuration, j);
+        return Turn::Bind(v, e);
     }
     let from = starts[v];
-    let end = j + (to - from);
-    if configuration.len() < end {
+    let e = j + (to - from);
+    if configuration.len() < e {
         return Turn::Misfit;
     }
-    let same = term::same_words(&configuration[from..to], &configuration[j..end]);
-    if same { Turn::Again(end) } else { Turn::Misfit }
+    let same = term::same_words(&configuration[from..to], &configuration[j..e]);
+    if same { Turn::Again(e) } else { Turn::Misfit }
 }
 
 // One number of an array.
@@ -80,7 +85,7 @@ pub fn match_left(
     let mut i = at;
     let mut j: usize = 0;
     while i < end {
-        let turn = turn_at(table, i, configuration, j, starts, ends);
+        let turn = turn_at(table, i, end, configuration, j, starts, ends);
         i += 2;
         match turn {
             Turn::Same => {

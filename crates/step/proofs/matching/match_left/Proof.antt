@@ -23,10 +23,10 @@ abbrev μ-loop : tie.MeasureT-loop
 walking : (c : tie.At-loop Inv-loop μ-loop) → Walking (c .before .before .args .table .now) (c .before .before .args .end) (c .before .before .args .configuration .now) (c .loop .i) (c .loop .j) (c .loop .starts) (c .loop .ends) (tryMatch (single (c .before .before .pre .0 .left)) (single (c .before .before .pre .1 .term)) unbound)
 walking c = let p = c .before .before .pre in c .loop .inv .0 (p .0 .left) (p .1 .term) (p .0 .is) (p .1 .is)
 
-from : (c : tie.In-loop Inv-loop μ-loop) → TurnFrom (c .before .before .before .args .table .now) (c .before .loop .i) (c .before .before .before .args .configuration .now) (c .before .loop .j) (c .before .loop .starts) (c .before .loop .ends)
+from : (c : tie.In-loop Inv-loop μ-loop) → TurnFrom (c .before .before .before .args .table .now) (c .before .loop .i) (c .before .before .before .args .end) (c .before .before .before .args .configuration .now) (c .before .loop .j) (c .before .loop .starts) (c .before .loop .ends)
 from c =
     let p = c .before .before .before .pre in
-    record { end = c .before .before .before .args .end; before = c .loop-test .taken; outcome = tryMatch (single (p .0 .left)) (single (p .1 .term)) unbound; walking = walking (c .before) }
+    record { before = c .loop-test .taken; outcome = tryMatch (single (p .0 .left)) (single (p .1 .term)) unbound; walking = walking (c .before) }
 
 loop-holds : tie.Need-loop-holds Inv-loop μ-loop
 loop-holds c = (λ l g x y. begins (c .before .args .starts .now) x y, λ v z. refl)

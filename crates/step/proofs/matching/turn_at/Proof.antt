@@ -11,7 +11,7 @@ use mir.Val.{SFits, toZ, ofZ}
 use mir.ValLaws.{toZ-ofZ}
 use borrow.Author.Needs.{needs}
 use Rattle.term.proofs.SignedLaw.{same-bits}
-use Rattle.step.proofs.MatchingLaw.{word, room, ground-at, turned-same, turned-other}
+use Rattle.step.proofs.MatchingLaw.{word, room, ground-at, last-ends, turned-same, turned-other}
 use Rattle.step.proofs.MatchingVariable.{number-fits, part-within, turned-bind, turned-again, turned-differs, turned-long}
 use Rattle.step.proofs.matching.turn_at.Statement.{statement}
 use Rattle.step.proofs.matching.turn_at.Tie as tie
@@ -104,13 +104,21 @@ mul-to c = record { fits = omega (arith, low c .1) }
 element-copy-out-to : tie.Need-element-copy-out-to
 element-copy-out-to c = low c .1
 
-ground-end-requires : tie.Need-ground-end-requires
-ground-end-requires c κs = ground-at (start (c .before .before) .pre)
+add-if5 : tie.Need-add-if5
+add-if5 c = search needs
 
 returns-4 : tie.Need-returns-4
 returns-4 c =
     let b = c .before .before .before in
-    turned-bind (three b) (number b) (c .before .if4 .taken) (c .ground-end .ensures)
+    turned-bind (three b) (number b) (c .before .if4 .taken) (last-ends (start b .pre) (c .if5 .taken))
+
+ground-end-requires : tie.Need-ground-end-requires
+ground-end-requires c κs = ground-at (start (c .before .before .before) .pre)
+
+returns-5 : tie.Need-returns-5
+returns-5 c =
+    let b = c .before .before .before .before in
+    turned-bind (three b) (number b) (c .before .before .if4 .taken) (c .ground-end .ensures)
 
 mul-from : tie.Need-mul-from
 mul-from c = record { fits = omega (arith, low (c .before .before) .1) }
@@ -118,20 +126,20 @@ mul-from c = record { fits = omega (arith, low (c .before .before) .1) }
 element-copy-out-from : tie.Need-element-copy-out-from
 element-copy-out-from c = low (c .before .before) .1
 
-sub-end : tie.Need-sub-end
-sub-end c = within (c .before .before .before) (c .before .if4 .left) .0
+sub-e : tie.Need-sub-e
+sub-e c = within (c .before .before .before) (c .before .if4 .left) .0
 
-add-end : tie.Need-add-end
-add-end c =
+add-e : tie.Need-add-e
+add-e c =
     let z = start (c .before .before .before) in
     let w = within (c .before .before .before) (c .before .if4 .left) in
     let r = room (z .pre) in
     record { fits = omega (arith, w .0, w .1, r .ground, z .good .1 .1 .0 .1) }
 
-returns-5 : tie.Need-returns-5
-returns-5 c =
+returns-6 : tie.Need-returns-6
+returns-6 c =
     let b = c .before .before .before .before in
-    turned-long (three b) (number b) (c .before .before .if4 .left) refl (c .if5 .taken)
+    turned-long (three b) (number b) (c .before .before .if4 .left) refl (c .if6 .taken)
 
 mul-same-words : tie.Need-mul-same-words
 mul-same-words c =
@@ -163,17 +171,17 @@ part-same-words-end-2 c = search needs
 same-words-requires : tie.Need-same-words-requires
 same-words-requires c κs = search needs
 
-returns-6 : tie.Need-returns-6
-returns-6 c =
-    let e = c .before .before .before .before in
-    let b = e .before .before .before .before in
-    turned-again (three b) (number b) (e .before .before .if4 .left) refl (e .if5 .left) (c .before .same-words .ensures .yes (c .if6 .taken))
-
 returns-7 : tie.Need-returns-7
 returns-7 c =
     let e = c .before .before .before .before in
     let b = e .before .before .before .before in
-    turned-differs (three b) (number b) (e .before .before .if4 .left) refl (c .before .same-words .ensures .no (c .if6 .left))
+    turned-again (three b) (number b) (e .before .before .if4 .left) refl (e .if6 .left) (c .before .same-words .ensures .yes (c .if7 .taken))
+
+returns-8 : tie.Need-returns-8
+returns-8 c =
+    let e = c .before .before .before .before in
+    let b = e .before .before .before .before in
+    turned-differs (three b) (number b) (e .before .before .if4 .left) refl (c .before .same-words .ensures .no (c .if7 .left))
 
 pub turn-at-spec : {M : Type 1} → statement M
 turn-at-spec =
@@ -191,13 +199,15 @@ turn-at-spec =
     cast-v
     mul-to
     element-copy-out-to
-    ground-end-requires
+    add-if5
     returns-4
+    ground-end-requires
+    returns-5
     mul-from
     element-copy-out-from
-    sub-end
-    add-end
-    returns-5
+    sub-e
+    add-e
+    returns-6
     mul-same-words
     sub-same-words
     part-same-words-start
@@ -207,5 +217,5 @@ turn-at-spec =
     part-same-words-start-2
     part-same-words-end-2
     same-words-requires
-    returns-6
-    returns-7)
+    returns-7
+    returns-8)
