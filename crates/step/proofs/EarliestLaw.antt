@@ -8,7 +8,7 @@ use native.Mathlib.Numerals.{add-one}
 use native.Mathlib.Omega.{arith}
 use lib.IntN.{ℤ}
 use lib.Dec.{leb}
-use lib.ListN.{length, drop, getElem?, drop-of-length-le}
+use lib.ListN.{length, drop, getD, getElem?, drop-of-length-le}
 use Rattle.minuska.specs.Term.{Term, nodeCount}
 use Rattle.minuska.specs.Rule.{Table, IsTable, IsConfiguration}
 use Rattle.minuska.specs.Slice.{outLimit, stepAnswer, stepOut}
@@ -22,7 +22,7 @@ use Rattle.minuska.specs.Contract.{StepByRuleContract, StepContract}
 use Rattle.minuska.proofs.ShutLaw.{step-is, step-outcome-is}
 use Rattle.minuska.proofs.OutcomeLaw.{on-words}
 use Rattle.minuska.proofs.ContractLaw.{step-contract}
-use Rattle.minuska.proofs.PositionLaw.{element-there, order-length}
+use Rattle.minuska.proofs.PositionLaw.{element-at, element-there, order-length, order-names}
 use Rattle.minuska.specs.Computed.Place.{RuleCountIs, OrderedIs}
 use Rattle.step.proofs.ApplyLaw.{outcome-by}
 
@@ -31,6 +31,15 @@ pub at-position : {A : Type 0} (l : List A) (i : ℕ) (a : A) → getElem? l i �
 at-position {A} [] i a e = absurd (Option·none-ne-some a e)
 at-position {A} (b ∷ l) zero a e = ap (λ (x : A). x ∷ l) (Option·some-injective b a e)
 at-position {A} (b ∷ l) (suc i) a e = at-position l i a e
+
+-- every position of the order names a rule
+pub position-names : {ws : List ℤ} {index : List ℕ} {i n count : ℕ} → Indexed ws index → RuleCountIs ws count → i < count → OrderedIs ws i n → n < count
+position-names {ws} {index} {i} {n} {count} x c below o =
+    let t = x .table in
+    let e : count ≡ length t = c .is t (x .is) in
+    let h : i < length (order t) = omega (arith, order-length t) in
+    let p : n ≡ getD (order t) i 0 = o .is t (x .is) (getD (order t) i 0) (element-at (order t) 0 i h) in
+    omega (arith, order-names t i h)
 
 -- ---- the rules before a position of the order do not apply
 pub record NoneBefore (ws cs : List ℤ) (i : ℕ) : Type 0 where

@@ -2,12 +2,12 @@
 use mathlib.Core.Path.{_≡_, refl, sym, _∙_, ap, subst, subst⁻¹}
 use mathlib.Core.Bool.{true, false, _&&_, false≢true}
 use mathlib.Core.Option.{Option, none, Option·some-injective, Option·none-ne-some}
-use mathlib.Core.List.{List}
-use Prim.Native.Nat.{ℕ, zero, suc, _<_, _≤_}
+use mathlib.Core.List.{List, []}
+use Prim.Native.Nat.{ℕ, zero, suc, _+_, _<_, _≤_}
 use native.Mathlib.Omega.{arith}
 use native.Mathlib.Decide.{ℕ-discrete}
 use lib.Dec.{leb}
-use lib.IntN.{ℤ}
+use lib.IntN.{ℤ, pos}
 use lib.ListN.{length, getD, replicate}
 use Rattle.minuska.specs.Basics.{present}
 use Rattle.minuska.specs.Term.{Forest, nil, node, Term, single, nodeCount, isGround}
@@ -21,7 +21,7 @@ use Rattle.minuska.proofs.PlaceLaw.{stands-whole}
 use Rattle.minuska.proofs.MatchLaw.{match-sound, match-complete}
 use Rattle.step.specs.Matching.{IsLeft, Matched, Walk, Walking, Put, After, Turned}
 use Rattle.step.specs.declared.matching.Turn.{Turn}
-use Rattle.step.proofs.MatchingLaw.{has-part}
+use Rattle.step.proofs.MatchingLaw.{word, has-part, turned-other}
 
 zeros : (k v : ℕ) → _≡_ {A = ℕ} (getD (replicate k 0) v 0) 0
 zeros zero v = refl
@@ -79,6 +79,11 @@ not-matched {config} {starts} {ends} {l} {g} e = record {
   binds = λ ρ f. absurd (Option·none-ne-some ρ (sym e ∙ f));
   free = λ ρ f v z. absurd (Option·none-ne-some ρ (sym e ∙ f));
 }
+
+-- a left whose root is no variable, and not the configuration's root
+pub root-other : {table : List ℤ} {at end : ℕ} {config : List ℤ} {l g : Term} → IsLeft table at end l → IsConfiguration config g → (word table at ≡ pos 3 → ⊥) → (word table at ≡ word config 0 → word table (at + 1) ≡ word config 1 → ⊥) → tryMatch (single l) (single g) unbound ≡ none
+root-other {table} {at} {end} {config} {l} {g} x y plain f =
+    turned-other {starts = []} {ends = replicate 16 0} plain f .after (tryMatch (single l) (single g) unbound) (omega (arith, x .ends)) (begins [] x y)
 
 -- ---- the arrays, whatever is answered
 pub held : {table : List ℤ} {end : ℕ} {config : List ℤ} {i j : ℕ} {starts ends : List ℕ} {o : Option Valuation} → Walking table end config i j starts ends o → (v : ℕ) → (getD ends v 0 ≡ 0 → ⊥) → (t : Term) × BoundAt config (getD starts v 0) (getD ends v 0) v t

@@ -1,12 +1,12 @@
 -- From a table's index and a rule's number to what stands there: the left, the conditions and the right of that rule.
 use mathlib.Core.Path.{_≡_, sym, _∙_, ap}
-use mathlib.Core.Bool.{Bool}
+use mathlib.Core.Bool.{Bool, true, false, false≢true}
 use mathlib.Core.Option.{Option, some}
 use mathlib.Core.List.{List, [], _∷_}
-use Prim.Native.Nat.{ℕ, _+_, _*_, _<_}
+use Prim.Native.Nat.{ℕ, _+_, _*_, _<_, _≤_}
 use native.Mathlib.Nat.{add-zero}
 use native.Mathlib.Omega.{arith}
-use lib.IntN.{ℤ}
+use lib.IntN.{ℤ, pos}
 use lib.Dec.{T}
 use lib.ListN.{length, getD, getElem?}
 use Rattle.minuska.specs.Basics.{_>>=_, every}
@@ -27,11 +27,21 @@ use Rattle.minuska.proofs.OrderLaw.{named-below}
 use Rattle.minuska.proofs.PositionLaw.{few-rules}
 use Rattle.minuska.proofs.WriteLaw.{emit-values}
 use Rattle.minuska.proofs.IndexLaw.{RulePlaced, rightOf, conditionsOf, rule-placed, left-stands, right-stands, conditions-stand}
-use Rattle.step.specs.Apply.{RuleAt, Names, Matched, SomeMatched, MatchIs, HoldIs, MeasureIs, WordsFit, WriteIs}
+use Rattle.step.specs.Apply.{RuleAt, Names, Matched, SomeMatched, MatchIs, RootIs, HoldIs, MeasureIs, WordsFit, WriteIs}
 use Rattle.step.specs.Matching.{IsLeft, LeftIn, MatchContract}
 use Rattle.step.specs.Conditions.{Side, Sides, Conditions, SomeConditions, HoldAllIs}
 use Rattle.step.specs.Right.{Rest, SomeRest, MeasureRightIs, FittingRest, WriteRightIs}
 use Rattle.step.specs.declared.right.Fit.{Fit}
+use Rattle.step.proofs.MatchingLaw.{word}
+use Rattle.step.proofs.MatchingAnswer.{root-other}
+
+-- the configuration has a root
+pub root-there : {cs : List ℤ} → Accepted cs → 2 ≤ length cs
+root-there a = omega (arith, ap length (a .is .words))
+
+-- nothing is said of a left that may match
+pub root-open : {ws cs : List ℤ} {n : ℕ} → RootIs ws cs n false
+root-open = record { differs = λ e. absurd (false≢true e) }
 
 module _ (ws : List ℤ) (index : List ℕ) (n : ℕ) (x : Indexed ws index) where
   pub named-within : Names ws n → 4 * n + 3 < 1024
@@ -67,6 +77,13 @@ module _ (ws : List ℤ) (index : List ℕ) (n : ℕ) (x : Indexed ws index) whe
         answer = λ rule g a. m .each (rule .left) g (is-left (a .table) rule (a .is) (a .numbered)) (a .configuration) .answer;
         binds = λ rule g ρ a e. m .each (rule .left) g (is-left (a .table) rule (a .is) (a .numbered)) (a .configuration) .binds ρ e;
       }
+
+  -- ---- the left's root, and the configuration's
+  pub root-within : Names ws n → getD index (4 * n + 0) 0 + 4 ≤ length ws
+  root-within a = let l = left-in a in omega (arith, l .is .stands .within)
+
+  pub root-differs : (cs : List ℤ) → (word ws (getD index (4 * n + 0) 0 + 2) ≡ pos 3 → ⊥) → (word ws (getD index (4 * n + 0) 0 + 2) ≡ word cs 0 → word ws (getD index (4 * n + 0) 0 + 2 + 1) ≡ word cs 1 → ⊥) → RootIs ws cs n true
+  root-differs cs plain f = record { differs = λ e rule g a. root-other (is-left (a .table) rule (a .is) (a .numbered)) (a .configuration) plain f }
 
   module _ (cs : List ℤ) (starts ends : List ℕ) where
     module _ (rule : Rule) (g : Term) (ρ : Valuation) (m : Matched ws cs n starts ends rule g ρ) where

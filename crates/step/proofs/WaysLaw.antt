@@ -25,7 +25,7 @@ use Rattle.minuska.specs.Computed.Place.{RuleCountIs, ActionIs}
 use Rattle.minuska.proofs.AcceptedLaw.{term-length}
 use Rattle.step.specs.declared.right.Fit.{Fit}
 use Rattle.step.specs.declared.right.Fit.the-variants.{Words, TooLarge}
-use Rattle.step.specs.Apply.{RuleAt, Names, Matched, SomeMatched, MatchIs, HoldIs, MeasureIs, WordsFit, WriteIs, Instantiated}
+use Rattle.step.specs.Apply.{RuleAt, Names, Matched, SomeMatched, MatchIs, RootIs, HoldIs, MeasureIs, WordsFit, WriteIs, Instantiated}
 use Rattle.step.proofs.ApplyLaw.{too-large, words-fit, as-large, as-stepped, no-successor, the-successor, unmatched, matched-some, unheld, applied, right-value, past-successor, named}
 
 -- the limit that an out slice gives is within it
@@ -65,6 +65,11 @@ module _ (ws cs : List ℤ) (index : List ℕ) (n : ℕ) (out : List ℤ) (i : I
 
     pub names : Names ws n
     names = let (rule, r) = rule-at in record { table = r .table; is = r .is; rule = rule; numbered = r .numbered }
+
+    pub way-passed : (differs : Bool) → RootIs ws cs n differs → differs ≡ true → StepByRuleContract ws cs n out out S.Stuck
+    way-passed differs k t =
+        let (rule, r) = rule-at in
+        no-successor ws cs n out (r .table) (a .term) (r .is) (a .is) (unmatched ws cs n rule (a .term) r (ap present (k .differs t rule (a .term) r)))
 
     module _ (starts ends : List ℕ) (matched : Bool) (m : MatchIs ws cs n starts ends matched) where
       pub way-unmatched : matched ≡ false → StepByRuleContract ws cs n out out S.Stuck

@@ -1,7 +1,7 @@
 -- One rule at one configuration, over checked words. Each statement is about every rule and term that the words can be: there is only one of each.
 use mathlib.Core.Path.{_≡_}
 use mathlib.Core.Bool.{Bool, true, false, cond}
-use mathlib.Core.Option.{some}
+use mathlib.Core.Option.{none, some}
 use mathlib.Core.List.{List}
 use Prim.Native.Nat.{ℕ, _≤_}
 use lib.IntN.{ℤ}
@@ -53,6 +53,10 @@ pub record SomeMatched (ws cs : List ℤ) (n : ℕ) (starts ends : List ℕ) : T
 pub record MatchIs (ws cs : List ℤ) (n : ℕ) (starts′ ends′ : List ℕ) (r : Bool) : Type 0 where
   pub answer : (rule : Rule) (g : Term) → RuleAt ws cs n rule g → r ≡ present (tryMatch (single (rule .left)) (single g) unbound)
   pub binds : (rule : Rule) (g : Term) (ρ : Valuation) → RuleAt ws cs n rule g → tryMatch (single (rule .left)) (single g) unbound ≡ some ρ → Binds cs starts′ ends′ ρ
+
+-- what the left's root says: where it says yes, the left does not match
+pub record RootIs (ws cs : List ℤ) (n : ℕ) (r : Bool) : Type 0 where
+  pub differs : r ≡ true → (rule : Rule) (g : Term) → RuleAt ws cs n rule g → tryMatch (single (rule .left)) (single g) unbound ≡ none
 
 -- the conditions' answer: whether all hold
 pub record HoldIs (ws cs : List ℤ) (n : ℕ) (starts ends : List ℕ) (r : Bool) : Type 0 where

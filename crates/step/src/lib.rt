@@ -98,7 +98,7 @@ pub fn out_limit(words: usize) -> usize
     if words < 65536 { words / 2 } else { 32768 }
 }
 
-// The step, of checked words.
+// The step, of checked words. Most rules of a table show at the left's root that they do not apply: these are passed over, and not tried.
 pub fn apply_earliest<'a>(
     table: &'a [i64],
     index: &[usize; 1024],
@@ -114,6 +114,10 @@ pub fn apply_earliest<'a>(
     let mut i = 0;
     while i < count {
         let rule = table::ordered(table, index, i);
+        i += 1;
+        if rule::root_differs(table, index, rule, configuration) {
+            continue;
+        }
         let tried = try_rule(
             table,
             index,
@@ -123,7 +127,6 @@ pub fn apply_earliest<'a>(
             &mut ends,
             out,
         );
-        i += 1;
         if !is_stuck(tried) {
             return tried;
         }

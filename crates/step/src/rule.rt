@@ -4,7 +4,7 @@ ghost use mathlib.Core.Path.{_≡_};
 ghost use Prim.Native.Nat.{_+_, _*_, _<_};
 ghost use lib.ListN.{length, getD};
 ghost use Rattle.minuska.specs.Computed.Place.{Indexed, Accepted};
-ghost use Rattle.step.specs.Apply.{Names, SomeMatched, MatchIs, HoldIs, MeasureIs, WordsFit, WriteIs};
+ghost use Rattle.step.specs.Apply.{Names, SomeMatched, MatchIs, RootIs, HoldIs, MeasureIs, WordsFit, WriteIs};
 
 // A number of the index: where part 0, 1, 2 or 3 of a rule starts (the rule, its right, its conditions, what follows it).
 pub fn place(index: &[usize; 1024], rule: usize, part: usize) -> usize
@@ -29,6 +29,30 @@ pub fn match_rule(
     let at = place(index, rule, 0);
     let end = place(index, rule, 1);
     crate::matching::match_left(table, at + 2, end, configuration, starts, ends)
+}
+
+// Whether the left's root already says that the left does not match: it is no variable, and its words are not those of the configuration's root.
+pub fn root_differs(
+    table: &[i64],
+    index: &[usize; 1024],
+    rule: usize,
+    configuration: &[i64],
+) -> bool
+    requires { ⌜ Indexed (now table) (now index) × Accepted (now configuration) × Names (now table) rule ⌝ }
+    ensures { λ r. ⌜ RootIs (now (table .entry)) (now (configuration .entry)) rule r ⌝ }
+{
+    let at = place(index, rule, 0) + 2;
+    let t = term::word(table, at);
+    if t == 3 {
+        return false;
+    }
+    if t != term::word(configuration, 0) {
+        return true;
+    }
+    if term::word(table, at + 1) != term::word(configuration, 1) {
+        return true;
+    }
+    false
 }
 
 // Whether the rule's conditions hold.

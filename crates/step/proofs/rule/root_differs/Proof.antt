@@ -1,0 +1,90 @@
+-- `root_differs` meets its contract: the left stands at its place in the table, and the configuration has a root.
+use mathlib.Core.Path.{_≡_, sym, _∙_, ap}
+use Prim.Native.Nat.{ℕ, _+_, _*_, _≤_}
+use native.Mathlib.Omega.{arith}
+use lib.IntN.{pos}
+use lib.ListN.{length, getD}
+use mir.Syntax.{w64}
+use mir.Val.{ofZ}
+use Rattle.step.proofs.MatchingLaw.{word}
+use Rattle.step.proofs.RuleLaw.{named-within, root-there, root-open, root-within, root-differs}
+use Rattle.step.proofs.rule.root_differs.Statement.{statement}
+use Rattle.step.proofs.rule.root_differs.Tie as tie
+
+-- the root's two words in the table, read at the place that the index says
+module _ (p : tie.After-place) where
+  abbrev start : tie.Start
+  start = p .before
+
+  abbrev at : ℕ
+  at = getD (start .args .index .now) (4 * start .args .rule + 0) 0
+
+  within : p .place .result + 4 ≤ length (start .args .table .now)
+  within = omega (arith, p .place .ensures, root-within (start .args .table .now) (start .args .index .now) (start .args .rule) (start .pre .0) (start .pre .2))
+
+  there : (k : ℕ) → word (start .args .table .now) (p .place .result + k) ≡ word (start .args .table .now) (at + k)
+  there k = ap (λ (x : ℕ). word (start .args .table .now) (x + k)) (p .place .ensures)
+
+-- the root is no variable
+plain : (c : tie.Else1) → word (start (c .before .before) .args .table .now) (at (c .before .before) + 2) ≡ pos 3 → ⊥
+plain c e = c .if1 .left (ap (ofZ w64) (c .before .word .ensures ∙ (there (c .before .before) 2 ∙ e)))
+
+place-requires : tie.Need-place-requires
+place-requires c κs = omega (arith, named-within (c .args .table .now) (c .args .index .now) (c .args .rule) (c .pre .0) (c .pre .2))
+
+add-at : tie.Need-add-at
+add-at c = record { fits = omega (arith, within c, c .before .good .0 .0) }
+
+word-requires : tie.Need-word-requires
+word-requires c κs = omega (arith, within c)
+
+returns : tie.Need-returns
+returns c = root-open
+
+word-requires-2 : tie.Need-word-requires-2
+word-requires-2 c κs = omega (arith, root-there (c .before .before .before .pre .1))
+
+returns-2 : tie.Need-returns-2
+returns-2 c =
+    let e = c .before .before in
+    let p = e .before .before in
+    let s = p .before in
+    root-differs (s .args .table .now) (s .args .index .now) (s .args .rule) (s .pre .0) (s .args .configuration .now) (plain e)
+    (λ x y. c .if2 .taken (ap (ofZ w64) (e .before .word .ensures ∙ (there p 2 ∙ (x ∙ sym (c .before .word2 .ensures))))))
+
+add-word : tie.Need-add-word
+add-word c = let p = c .before .before .before .before in record { fits = omega (arith, within p, p .before .good .0 .0) }
+
+word-requires-3 : tie.Need-word-requires-3
+word-requires-3 c κs = omega (arith, within (c .before .before .before .before))
+
+word-requires-4 : tie.Need-word-requires-4
+word-requires-4 c κs = omega (arith, root-there (c .before .before .before .before .before .before .pre .1))
+
+returns-3 : tie.Need-returns-3
+returns-3 c =
+    let w = c .before .before in
+    let e = w .before .before .before in
+    let p = e .before .before in
+    let s = p .before in
+    root-differs (s .args .table .now) (s .args .index .now) (s .args .rule) (s .pre .0) (s .args .configuration .now) (plain e)
+    (λ x y. c .if3 .taken (ap (ofZ w64) (w .word3 .ensures ∙ (ap (λ (k : ℕ). word (s .args .table .now) (k + 2 + 1)) (p .place .ensures) ∙ (y ∙ sym (c .before .word4 .ensures))))))
+
+returns-4 : tie.Need-returns-4
+returns-4 c = root-open
+
+pub root-differs-spec : {M : Type 1} → statement M
+root-differs-spec =
+    tie.close
+    (tie.spec
+    place-requires
+    add-at
+    word-requires
+    returns
+    word-requires-2
+    returns-2
+    add-word
+    word-requires-3
+    word-requires-4
+    returns-3
+    returns-4)
