@@ -27,7 +27,7 @@ use Rattle.step.specs.declared.matching.Turn.the-variants.{Bind, Again, 
 use Rattle.step.proofs.MatchingLaw.{word, childless, has-part, heads, left-tag, left-datum, words-here, term-at}
 
 -- the tag 3 is a variable's
-tag-three : (l : Label) (k : ℕ) → tagWord l k ≡ pos 3 → (v : ℕ) × (l ≡ variable v)
+pub tag-three : (l : Label) (k : ℕ) → tagWord l k ≡ pos 3 → (v : ℕ) × (l ≡ variable v)
 tag-three error k e = absurd (let z : _≡_ {A = ℕ} 0 3 = ap natAbs e in let f : ⊥ = omega arith in f)
 tag-three (truth b) k e = absurd (let z : _≡_ {A = ℕ} 1 3 = ap natAbs e in let f : ⊥ = omega arith in f)
 tag-three (whole n) k e = absurd (let z : _≡_ {A = ℕ} 2 3 = ap natAbs e in let f : ⊥ = omega arith in f)

@@ -1,5 +1,5 @@
 -- One item of a right: what `item` says by the node's tag.
-use mathlib.Core.Path.{_≡_, refl, sym, _∙_, ap, subst}
+use mathlib.Core.Path.{_≡_, refl, sym, _∙_, ap, subst, subst₂}
 use mathlib.Core.Bool.{_&&_}
 use mathlib.Core.Logic.{_⊎_, ⊎-elim}
 use mathlib.Core.Option.{Option, some}
@@ -27,7 +27,7 @@ use Rattle.value.specs.declared.Evaluated.{Evaluated}
 use Rattle.value.specs.declared.Value.the-variants as W
 use Rattle.value.specs.Value.{valueWords, Within, IsValue}
 use Rattle.value.specs.Evaluate.{Placed, HasValue, ExpressionIn, EvaluateContract}
-use Rattle.step.specs.Right.{Rest, SomeRest, ItemOf, ItemIs}
+use Rattle.step.specs.Right.{Rest, SomeRest, Leads, ItemOf, ItemIs}
 
 -- ---- labels by their tag word
 tag-variable : (l : Label) (k : ℕ) → tagWord l k ≡ pos 3 → (v : ℕ) × (role l ≡ aVariable v)
@@ -38,7 +38,7 @@ tag-variable (variable v) k e = (v, refl)
 tag-variable (call c) k e = absurd (let z : _≡_ {A = ℕ} 4 3 = cc in let f : ⊥ = omega arith in f)
 tag-variable (symbol s) k e = absurd (let z : 8 + k ≡ 3 = cc in let f : ⊥ = omega arith in f)
 
-tag-call : (l : Label) (k : ℕ) → tagWord l k ≡ pos 4 → (c : ℕ) × (role l ≡ aCall c)
+pub tag-call : (l : Label) (k : ℕ) → tagWord l k ≡ pos 4 → (c : ℕ) × (role l ≡ aCall c)
 tag-call error k e = absurd (let z : _≡_ {A = ℕ} 0 4 = cc in let f : ⊥ = omega arith in f)
 tag-call (truth b) k e = absurd (let z : _≡_ {A = ℕ} 1 4 = cc in let f : ⊥ = omega arith in f)
 tag-call (whole x) k e = absurd (let z : _≡_ {A = ℕ} 2 4 = cc in let f : ⊥ = omega arith in f)
@@ -63,7 +63,7 @@ module _ (ws cs : List ℤ) (starts ends : List ℕ) (at end : ℕ) (ρ : Valuat
     abbrev this : Term
     this = record { label = l; children = ls }
 
-    standing : Stands ws at (encode (single this) ++ encode ss)
+    pub standing : Stands ws at (encode (single this) ++ encode ss)
     standing = subst (Stands ws at) (first-words l ls ss) (r .stands)
 
     behind : (words : List ℤ) → emit ρ ss ≡ some words → Rest ws cs starts ends (at + length (encode (single this))) end ρ ss words
@@ -78,6 +78,10 @@ module _ (ws cs : List ℤ) (starts ends : List ℕ) (at end : ℕ) (ρ : Valuat
           binds = r .binds;
         }
 
+    -- a term's words, and the rest behind the first term
+    pub leads-on : (t : Term) (words : List ℤ) → encode (single t) ++ words ≡ us → emit ρ ss ≡ some words → Leads ws cs starts ends at end ρ us (encode (single t)) (at + length (encode (single this)))
+    leads-on t words p e = record { later = ss; words = words; parted = p; forward = omega arith; rest = behind words e }
+
     -- ---- a variable or a call: an expression that is worth a term
     module _ (t : Term) (words : List ℤ) (v : value ρ this ≡ some t) (p : encode (single t) ++ words ≡ us) (e : emit ρ ss ≡ some words) (x : T (isExpression (single this))) where
       has : HasValue ws cs starts ends at ρ this t
@@ -88,15 +92,7 @@ module _ (ws cs : List ℤ) (starts ends : List ℕ) (at end : ℕ) (ρ : Valuat
       expression-item : (s : Evaluated) → EvaluateContract ws cs starts ends at s → ItemOf ws cs starts ends at end ρ us s
       expression-item s c =
           let m = c .meant ρ this t has in
-          let n : s .next ≡ at + length (encode (single this)) = m .next in
-          record {
-            later = ss;
-            words = words;
-            parted = ap (λ (z : List ℤ). z ++ words) (m .is .words) ∙ p;
-            within = m .is .within;
-            forward = omega arith;
-            rest = subst (λ (i : ℕ). Rest ws cs starts ends i end ρ ss words) (sym n) (behind words e);
-          }
+          record { within = m .is .within; leads = subst₂ (λ (vs : List ℤ) (n : ℕ). Leads ws cs starts ends at end ρ us vs n) (sym (m .is .words)) (sym (m .next)) (leads-on t words p e) }
 
     expression-shape : T (expressionAt (role l) (isExpression ls) (isExpressionTerm ls))
     expression-shape = and-left (expressionAt (role l) (isExpression ls) (isExpressionTerm ls)) (isExpressionTerm ss) (r .shape)
@@ -141,33 +137,42 @@ module _ (ws cs : List ℤ) (starts ends : List ℕ) (at end : ℕ) (ρ : Valuat
       evaluated-item s c = let g = evaluating in expression-item (g .term) (g .words) (g .is) (g .parts) (g .later) (g .shape) s c
 
     -- ---- a plain node: its two words as they stand
-    pub node-item : (tagWord l (termCount ls) ≡ pos 3 → ⊥) → (tagWord l (termCount ls) ≡ pos 4 → ⊥) → ItemOf ws cs starts ends at end ρ us (record { value = W.Table at (at + 2); next = at + 2 })
-    unfolding valueWords Within
-    node-item f g =
+    abbrev pub two : List ℤ
+    two = tagWord l (termCount ls) ∷ datumWord l ∷ []
+
+    flattened : encode (node l ls ss) ≡ two ++ encode (appended ls ss)
+    flattened = ap (λ (z : List ℤ). tagWord l (termCount ls) ∷ datumWord l ∷ z) (sym (encode-appended ls ss))
+
+    two-stand : Stands ws at (two ++ encode (appended ls ss))
+    two-stand = subst (Stands ws at) flattened (r .stands)
+
+    pub node-leads : (tagWord l (termCount ls) ≡ pos 3 → ⊥) → (tagWord l (termCount ls) ≡ pos 4 → ⊥) → Leads ws cs starts ends at end ρ us two (at + 2)
+    node-leads f g =
         let k = tag-plain l (termCount ls) f g in
         let i = plain-item ρ l ls ss us (r .emits) k in
         let o = okay l ls ss (r .good) in
-        let two : List ℤ = tagWord l (termCount ls) ∷ datumWord l ∷ [] in
-        let e : encode (node l ls ss) ≡ two ++ encode (appended ls ss) = ap (λ (z : List ℤ). tagWord l (termCount ls) ∷ datumWord l ∷ z) (sym (encode-appended ls ss)) in
-        let s : Stands ws at (two ++ encode (appended ls ss)) = subst (Stands ws at) e (r .stands) in
-        let h : Stands ws at two = stands-first two (encode (appended ls ss)) s in
-        let n : at + 2 - at ≡ 2 = omega arith in
         record {
           later = appended ls ss;
           words = i .0;
-          parted = ap (λ (m : ℕ). take m (drop at ws) ++ i .0) n ∙ (ap (λ (z : List ℤ). z ++ i .0) (h .words) ∙ i .1);
-          within = (omega arith, h .within);
+          parted = i .1;
           forward = omega arith;
           rest =
               record {
                 good = appended-ok ls ss (o .children) (o .rest);
                 shape = term-appended ls ss (subst (λ (z : Role). T (expressionAt z (isExpression ls) (isExpressionTerm ls))) k expression-shape) (and-right (expressionAt (role l) (isExpression ls) (isExpressionTerm ls)) (isExpressionTerm ss) (r .shape));
-                stands = stands-second two (encode (appended ls ss)) s;
-                upTo = r .upTo ∙ omega (arith, ap length e, length-append two (encode (appended ls ss)));
+                stands = stands-second two (encode (appended ls ss)) two-stand;
+                upTo = r .upTo ∙ omega (arith, ap length flattened, length-append two (encode (appended ls ss)));
                 emits = i .2;
                 binds = r .binds;
               };
         }
+
+    node-item : (tagWord l (termCount ls) ≡ pos 3 → ⊥) → (tagWord l (termCount ls) ≡ pos 4 → ⊥) → ItemOf ws cs starts ends at end ρ us (record { value = W.Table at (at + 2); next = at + 2 })
+    unfolding valueWords Within
+    node-item f g =
+        let h : Stands ws at two = stands-first two (encode (appended ls ss)) two-stand in
+        let n : at + 2 - at ≡ 2 = omega arith in
+        record { within = (omega arith, h .within); leads = subst (λ (vs : List ℤ). Leads ws cs starts ends at end ρ us vs (at + 2)) (sym (ap (λ (m : ℕ). take m (drop at ws)) n ∙ h .words)) (node-leads f g) }
 
 -- ---- `item`, before the end, by the tag that it reads
 module _ (ws cs : List ℤ) (starts ends : List ℕ) (at end : ℕ) (below : at < end) (tag : ℤ) (read : tag ≡ getD ws at (pos 0)) where

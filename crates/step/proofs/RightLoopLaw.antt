@@ -19,9 +19,10 @@ use Rattle.value.specs.declared.Evaluated.{Evaluated}
 use Rattle.value.specs.Value.{valueWords, Within, sizeOf}
 use Rattle.value.specs.Copy.{written}
 use Rattle.value.proofs.WordsLaw.{size-is}
+use Rattle.step.specs.declared.right.Sized.{Sized}
 use Rattle.step.specs.declared.right.Fit.the-variants.{Words, TooLarge}
 use Rattle.step.specs.Apply.{fitOf}
-use Rattle.step.specs.Right.{Rest, SomeRest, ItemOf, ItemIs, MeasureRightIs, FittingRest, WriteRightIs}
+use Rattle.step.specs.Right.{Rest, SomeRest, Leads, ItemOf, ItemIs, SizedOf, SizedFrom, SizedIs, MeasureRightIs, FittingRest, WriteRightIs}
 
 module _ (ws cs : List ℤ) (starts ends : List ℕ) (at end : ℕ) where
   -- how far the items have come: the words so far, and the rest from place i on
@@ -40,26 +41,20 @@ module _ (ws cs : List ℤ) (starts ends : List ℕ) (at end : ℕ) where
     pub come-end : end ≤ i → so-far ≡ us
     come-end h = sym (append-nil so-far) ∙ (ap (λ (x : List ℤ). so-far ++ x) (sym (nothing-left i ρ (c .later) (c .words) (c .rest) h)) ∙ c .joined)
 
-    module _ (r : Evaluated) (x : ItemIs ws cs starts ends i end r) where
-      this : ItemOf ws cs starts ends i end ρ (c .words) r
-      this = x .is ρ (c .later) (c .words) (c .rest)
-
-      pub come-on : Come us ρ (r .next) (so-far ++ valueWords ws cs (r .value))
+    module _ (vs : List ℤ) (next : ℕ) (t : Leads ws cs starts ends i end ρ (c .words) vs next) where
+      come-on : Come us ρ next (so-far ++ vs)
       come-on =
-          let t = this in
-          record { later = t .later; words = t .words; rest = t .rest; joined = append-assoc so-far (valueWords ws cs (r .value)) (t .words) ∙ (ap (λ (z : List ℤ). so-far ++ z) (t .parted) ∙ c .joined) }
+          record { later = t .later; words = t .words; rest = t .rest; joined = append-assoc so-far vs (t .words) ∙ (ap (λ (z : List ℤ). so-far ++ z) (t .parted) ∙ c .joined) }
 
-      pub come-within : Within ws cs (r .value)
-      come-within = this .within
-
-      pub come-forward : i < r .next
-      come-forward = this .forward
-
-      pub come-size : length so-far + sizeOf (r .value) ≤ length us
+      come-size : length so-far + length vs ≤ length us
       come-size =
-          let t = this in
-          let w = valueWords ws cs (r .value) in
-          omega (arith, size-is ws cs (r .value) (t .within), ap length (t .parted), length-append w (t .words), ap length (c .joined), length-append so-far (c .words))
+          omega (arith, ap length (t .parted), length-append vs (t .words), ap length (c .joined), length-append so-far (c .words))
+
+    come-item : (r : Evaluated) → ItemIs ws cs starts ends i end r → ItemOf ws cs starts ends i end ρ (c .words) r
+    come-item r x = x .is ρ (c .later) (c .words) (c .rest)
+
+    come-sized : (r : Sized) → SizedIs ws starts ends i r → i < end → SizedOf ws cs starts ends i end ρ (c .words) r
+    come-sized r x below = x .is cs end ρ (c .later) (c .words) below (c .rest)
 
   come-first : (ρ : Valuation) (f : Forest) (us : List ℤ) → Rest ws cs starts ends at end ρ f us → Come us ρ at []
   come-first ρ f us r = record { later = f; words = us; rest = r; joined = refl }
@@ -72,31 +67,28 @@ module _ (ws cs : List ℤ) (starts ends : List ℕ) (at end : ℕ) where
   measuring-first room = record { come = λ ρ f us r. ([], come-first ρ f us r, add-zero room) }
 
   module _ (room i left : ℕ) (m : Measuring room i left) where
-    pub measuring-rest : SomeRest ws cs starts ends at end → SomeRest ws cs starts ends i end
-    measuring-rest s =
+    pub measuring-rest : SomeRest ws cs starts ends at end → i < end → SizedFrom ws starts ends i
+    measuring-rest s below =
         let (so-far, c, e) = m .come (s .valuation) (s .terms) (s .words) (s .is) in
-        record { valuation = s .valuation; terms = c .later; words = c .words; is = c .rest }
+        record { configuration = cs; end = end; before = below; rest = record { valuation = s .valuation; terms = c .later; words = c .words; is = c .rest } }
 
     pub measured : end ≤ i → MeasureRightIs ws cs starts ends at end room (Words (room - left))
     unfolding fitOf
     measured h =
         record { is = λ ρ f us r. let (so-far, c, e) = m .come ρ f us r in let q = ap length (come-end us ρ i so-far c h) in let n : room - left ≡ length us = omega arith in rw (n, le-leb (length us) room (omega arith)) refl }
 
-    module _ (r : Evaluated) (x : ItemIs ws cs starts ends i end r) where
-      pub measuring-on : sizeOf (r .value) ≤ left → Measuring room (r .next) (left - sizeOf (r .value))
+    module _ (below : i < end) (r : Sized) (x : SizedIs ws starts ends i r) where
+      pub measuring-on : r .words ≤ left → Measuring room (r .next) (left - r .words)
       measuring-on h =
-          record { come = λ ρ f us z. let (so-far, c, e) = m .come ρ f us z in (so-far ++ valueWords ws cs (r .value), come-on us ρ i so-far c r x, omega (arith, length-append so-far (valueWords ws cs (r .value)), size-is ws cs (r .value) (come-within us ρ i so-far c r x))) }
+          record { come = λ ρ f us z. let (so-far, c, e) = m .come ρ f us z in let t = come-sized us ρ i so-far c r x below in (so-far ++ t .first, come-on us ρ i so-far c (t .first) (r .next) (t .leads), omega (arith, length-append so-far (t .first), t .many)) }
 
-      pub measured-over : left < sizeOf (r .value) → MeasureRightIs ws cs starts ends at end room TooLarge
+      pub measured-over : left < r .words → MeasureRightIs ws cs starts ends at end room TooLarge
       unfolding fitOf
       measured-over h =
-          record { is = λ ρ f us z. let (so-far, c, e) = m .come ρ f us z in let k = come-size us ρ i so-far c r x in rw (lt-leb (length us) room (omega arith)) refl }
-
-      pub measuring-within : SomeRest ws cs starts ends at end → Within ws cs (r .value)
-      measuring-within s = let (so-far, c, e) = m .come (s .valuation) (s .terms) (s .words) (s .is) in come-within (s .words) (s .valuation) i so-far c r x
+          record { is = λ ρ f us z. let (so-far, c, e) = m .come ρ f us z in let t = come-sized us ρ i so-far c r x below in let k = come-size us ρ i so-far c (t .first) (r .next) (t .leads) in rw (lt-leb (length us) room (omega (arith, t .many))) refl }
 
       pub measuring-forward : SomeRest ws cs starts ends at end → i < r .next
-      measuring-forward s = let (so-far, c, e) = m .come (s .valuation) (s .terms) (s .words) (s .is) in come-forward (s .words) (s .valuation) i so-far c r x
+      measuring-forward s = let (so-far, c, e) = m .come (s .valuation) (s .terms) (s .words) (s .is) in come-sized (s .words) (s .valuation) i so-far c r x below .leads .forward
 
   -- ---- `write_right`: the words so far stand at the start of the slice, the place behind them is o
   pub record Writing (out₀ : List ℤ) (i o : ℕ) (out : List ℤ) : Type 0 where
@@ -128,14 +120,15 @@ module _ (ws cs : List ℤ) (starts ends : List ℕ) (at end : ℕ) where
     module _ (r : Evaluated) (x : ItemIs ws cs starts ends i end r) where
       pub writing-on : (o′ : ℕ) (out′ : List ℤ) → out′ ≡ written out o (valueWords ws cs (r .value)) → o′ ≡ o + length (valueWords ws cs (r .value)) → Writing out₀ (r .next) o′ out′
       writing-on o′ out′ p q =
-          record { come = λ ρ f us z. let (so-far, c, e, w) = m .come ρ f us z in let v = valueWords ws cs (r .value) in (so-far ++ v, come-on us ρ i so-far c r x, q ∙ (ap (λ (n : ℕ). n + length v) e ∙ sym (length-append so-far v)), p ∙ (ap (λ (y : List ℤ). written y o v) w ∙ (ap (λ (n : ℕ). written (write so-far out₀) n v) e ∙ put-behind out₀ so-far v))) }
+          record { come = λ ρ f us z. let (so-far, c, e, w) = m .come ρ f us z in let v = valueWords ws cs (r .value) in (so-far ++ v, come-on us ρ i so-far c v (r .next) (come-item us ρ i so-far c r x .leads), q ∙ (ap (λ (n : ℕ). n + length v) e ∙ sym (length-append so-far v)), p ∙ (ap (λ (y : List ℤ). written y o v) w ∙ (ap (λ (n : ℕ). written (write so-far out₀) n v) e ∙ put-behind out₀ so-far v))) }
 
       pub writing-room : FittingRest ws cs starts ends at end (length out₀) → Within ws cs (r .value) × (o + sizeOf (r .value) ≤ length out₀)
       writing-room k =
           let s = k .rest in
           let n = k .fit in
           let (so-far, c, e, w) = m .come (s .valuation) (s .terms) (s .words) (s .is) in
-          (come-within (s .words) (s .valuation) i so-far c r x, omega (arith, come-size (s .words) (s .valuation) i so-far c r x))
+          let t = come-item (s .words) (s .valuation) i so-far c r x in
+          (t .within, omega (arith, size-is ws cs (r .value) (t .within), come-size (s .words) (s .valuation) i so-far c (valueWords ws cs (r .value)) (r .next) (t .leads)))
 
       pub writing-forward : SomeRest ws cs starts ends at end → i < r .next
-      writing-forward s = let (so-far, c, e, w) = m .come (s .valuation) (s .terms) (s .words) (s .is) in come-forward (s .words) (s .valuation) i so-far c r x
+      writing-forward s = let (so-far, c, e, w) = m .come (s .valuation) (s .terms) (s .words) (s .is) in come-item (s .words) (s .valuation) i so-far c r x .leads .forward

@@ -16,6 +16,7 @@ use Rattle.minuska.specs.Computed.Place.{Stands, Binds}
 use Rattle.value.specs.declared.Evaluated.{Evaluated}
 use Rattle.value.specs.Value.{valueWords, Within}
 use Rattle.step.specs.declared.right.Fit.{Fit}
+use Rattle.step.specs.declared.right.Sized.{Sized}
 use Rattle.step.specs.Apply.{fitOf}
 
 module _ (ws cs : List ℤ) (starts ends : List ℕ) where
@@ -34,17 +35,27 @@ module _ (ws cs : List ℤ) (starts ends : List ℕ) where
     pub words : List ℤ
     pub is : Rest at end valuation terms words
 
-  -- one item: its words are the next that are emitted, and the rest goes on behind it
-  pub record ItemOf (at end : ℕ) (ρ : Valuation) (us : List ℤ) (r : Evaluated) : Type 0 where
+  -- the words vs are the next that are emitted, and the rest goes on from a place further on
+  pub record Leads (at end : ℕ) (ρ : Valuation) (us vs : List ℤ) (next : ℕ) : Type 0 where
     pub later : Forest
     pub words : List ℤ
-    pub parted : valueWords ws cs (r .value) ++ words ≡ us
+    pub parted : vs ++ words ≡ us
+    pub forward : at < next
+    pub rest : Rest next end ρ later words
+
+  -- one item: its words are the next, and the rest goes on behind it
+  pub record ItemOf (at end : ℕ) (ρ : Valuation) (us : List ℤ) (r : Evaluated) : Type 0 where
     pub within : Within ws cs (r .value)
-    pub forward : at < r .next
-    pub rest : Rest (r .next) end ρ later words
+    pub leads : Leads at end ρ us (valueWords ws cs (r .value)) (r .next)
 
   pub record ItemIs (at end : ℕ) (r : Evaluated) : Type 0 where
     pub is : (ρ : Valuation) (f : Forest) (us : List ℤ) → Rest at end ρ f us → ItemOf at end ρ us r
+
+  -- one item's size: the next words are as many
+  pub record SizedOf (at end : ℕ) (ρ : Valuation) (us : List ℤ) (r : Sized) : Type 0 where
+    pub first : List ℤ
+    pub many : r .words ≡ length first
+    pub leads : Leads at end ρ us first (r .next)
 
   -- all items: how many words, if there is room; the words themselves, written from the start of a slice
   pub record MeasureRightIs (at end room : ℕ) (r : Fit) : Type 0 where
@@ -56,3 +67,14 @@ module _ (ws cs : List ℤ) (starts ends : List ℕ) where
 
   pub record WriteRightIs (at end : ℕ) (out out′ : List ℤ) : Type 0 where
     pub is : (ρ : Valuation) (f : Forest) (us : List ℤ) → Rest at end ρ f us → out′ ≡ write us out
+
+-- The size of an item shows in the table and in the two arrays alone, whatever configuration they point into.
+module _ (ws : List ℤ) (starts ends : List ℕ) (at : ℕ) where
+  pub record SizedFrom : Type 0 where
+    pub configuration : List ℤ
+    pub end : ℕ
+    pub before : at < end
+    pub rest : SomeRest ws configuration starts ends at end
+
+  pub record SizedIs (r : Sized) : Type 0 where
+    pub is : (cs : List ℤ) (end : ℕ) (ρ : Valuation) (f : Forest) (us : List ℤ) → at < end → Rest ws cs starts ends at end ρ f us → SizedOf ws cs starts ends at end ρ us r

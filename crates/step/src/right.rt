@@ -3,7 +3,7 @@ use value::Evaluated;
 use value::Value;
 ghost use Prim.Native.Nat.{_<_};
 ghost use lib.ListN.{length};
-ghost use Rattle.step.specs.Right.{SomeRest, ItemIs, MeasureRightIs, FittingRest, WriteRightIs};
+ghost use Rattle.step.specs.Right.{SomeRest, ItemIs, SizedFrom, SizedIs, MeasureRightIs, FittingRest, WriteRightIs};
 
 // How many words a successor has, or that there is no room for them.
 pub enum Fit {
@@ -36,6 +36,40 @@ pub fn item(
     }
 }
 
+// How many words an item has, and the place behind it.
+pub struct Sized {
+    pub words: usize,
+    pub next: usize,
+}
+
+// One item's size, without its value: a call's value is one node, whatever its arguments are worth.
+pub fn item_size(table: &[i64], at: usize, starts: &[usize; 16], ends: &[usize; 16]) -> Sized
+    requires { ⌜ SizedFrom (now table) (now starts) (now ends) at ⌝ }
+    ensures { λ r. ⌜ SizedIs (now (table .entry)) (now (starts .entry)) (now (ends .entry)) at r ⌝ }
+{
+    let tag = term::word(table, at);
+    if tag == 3 {
+        let v = term::word(table, at + 1) as usize;
+        let from = starts[v];
+        let to = ends[v];
+        return Sized {
+            words: to - from,
+            next: at + 2,
+        };
+    }
+    if tag == 4 {
+        let next = term::expression_end(table, at);
+        return Sized {
+            words: 2,
+            next: next,
+        };
+    }
+    Sized {
+        words: 2,
+        next: at + 2,
+    }
+}
+
 // How many words the items from a place up to another have, if there is room for them.
 pub fn measure_right(
     table: &[i64],
@@ -52,9 +86,8 @@ pub fn measure_right(
     let mut i = at;
     let mut left = room;
     while i < end {
-        let x = item(table, configuration, i, end, starts, ends);
-        let v = x.value;
-        let n = value::size(v);
+        let x = item_size(table, i, starts, ends);
+        let n = x.words;
         if left < n {
             return Fit::TooLarge;
         }

@@ -5,3 +5,4 @@ pub mod RoleLaw
 pub mod DatumLaw
 pub mod ExtentLaw
 pub mod CheckLaw
+pub mod ChildrenLaw

@@ -1,2 +1,3 @@
 pub mod TermEnd
 pub mod Datum
+pub mod TermAt

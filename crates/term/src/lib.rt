@@ -6,6 +6,8 @@ ghost use lib.ListN.{length, getD};
 ghost use Rattle.minuska.specs.Computed.Place.{GroundAt, GroundEnds, Decides};
 ghost use Rattle.minuska.specs.Contract.{CheckConfigurationContract, SubtermContract};
 ghost use Rattle.term.specs.Datum.{leastDatum, listedDatum, mostDatum};
+ghost use Rattle.term.specs.TermAt.{TermAt, TermEnds, NodeWords};
+ghost use Rattle.term.specs.declared.Count.the-variants.{Is};
 ghost use Rattle.term.specs.TermEnd.{arityOf, childrenByTag, childCountOf, childCountIf, termEnd, termEndIf};
 use minuska::Check;
 use minuska::Refusal;
@@ -189,6 +191,33 @@ pub fn ground_end(s: &[i64], at: usize) -> usize
     while 0 < rest {
         let t = word(s, i);
         rest = rest - 1 + children_by_tag(t);
+        i += 2;
+    }
+    i
+}
+
+// The child count of two words that are a node's.
+fn children(t: i64, d: i64) -> usize
+    requires { ⌜ NodeWords t d ⌝ }
+    ensures { λ r. ⌜ Is r ≡ childCountOf t d ⌝ }
+{
+    if t == 4 {
+        return arity(d as usize);
+    }
+    children_by_tag(t)
+}
+
+// The place behind the term that stands at a place, which may have variables and calls.
+pub fn expression_end(s: &[i64], at: usize) -> usize
+    requires { ⌜ TermAt (now s) at ⌝ }
+    ensures { λ r. ⌜ TermEnds (now (s .entry)) at r ⌝ }
+{
+    let mut i = at;
+    let mut left: usize = 1;
+    while 0 < left {
+        let t = word(s, i);
+        let d = word(s, i + 1);
+        left = left - 1 + children(t, d);
         i += 2;
     }
     i
