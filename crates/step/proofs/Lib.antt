@@ -4,7 +4,6 @@ pub mod MatchingAnswer
 pub mod ConditionsLaw
 pub mod RightLaw
 pub mod RightLoopLaw
-pub mod SizeLaw
 pub mod RuleLaw
 pub mod ApplyLaw
 pub mod WaysLaw

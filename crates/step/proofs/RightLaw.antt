@@ -1,44 +1,41 @@
--- One item of a right: what `item` says by the node's tag.
-use mathlib.Core.Path.{_≡_, refl, sym, _∙_, ap, subst, subst₂}
-use mathlib.Core.Bool.{_&&_}
-use mathlib.Core.Logic.{_⊎_, ⊎-elim}
+-- One item of a right, by the node's tag: a variable's part, a call's value, or a plain node's two words; its size; and the rest behind it.
+use mathlib.Core.Path.{_≡_, refl, sym, _∙_, ap, subst, subst⁻¹, subst₂}
+use mathlib.Core.Bool.{Bool, true, false, _&&_, cond}
 use mathlib.Core.Option.{Option, some}
 use mathlib.Core.List.{List, [], _∷_, _++_}
-use Prim.Native.Nat.{ℕ, suc, _+_, _-_, _≤_, _<_}
+use Prim.Native.Nat.{ℕ, _+_, _-_, _≤_, _<_}
 use native.Mathlib.Omega.{arith}
-use lib.Dec.{T}
-use lib.IntN.{ℤ, pos}
+use lib.Dec.{T, eqb, ltb, eqb→eq}
+use lib.IntN.{ℤ, pos, natAbs}
 use lib.ListN.{length, take, drop, getD, length-append}
+use lib.Signed.{nonNeg}
 use Rattle.minuska.specs.Basics.{_>>=_}
-use Rattle.minuska.specs.Term.{Label, error, truth, whole, variable, call, symbol, Forest, nil, node, Term, single, termCount, Role, aVariable, aCall, plain, role, isGround}
-use Rattle.minuska.specs.Word.{ok, tagWord, datumWord, encode}
-use Rattle.minuska.specs.Function.{interpret}
+use Rattle.minuska.specs.Term.{Label, error, truth, whole, variable, call, symbol, Forest, nil, node, Term, single, leaf, termCount, Role, aCall, plain, role, isGround}
+use Rattle.minuska.specs.Word.{okNode, tagWord, datumWord, encode}
+use Rattle.minuska.specs.Function.{inWord, shareRange, outOfRange, interpret}
 use Rattle.minuska.specs.Satisfaction.{Valuation}
 use Rattle.minuska.specs.Rule.{expressionAt, isExpression, isExpressionTerm}
 use Rattle.minuska.specs.Computed.Value.{valueAt, value, values}
 use Rattle.minuska.specs.Computed.Walk.{emit}
-use Rattle.minuska.specs.Computed.Place.{Stands, Binds, part}
+use Rattle.minuska.specs.Computed.Place.{Stands, part}
 use Rattle.minuska.proofs.Tests.{and-left, and-right, and-both}
+use Rattle.minuska.proofs.FunctionLaw.{every-value}
 use Rattle.minuska.proofs.WordLaw.{okay, okay-all, appended, encode-appended}
 use Rattle.minuska.proofs.AppendedLaw.{first-words, appended-ok}
 use Rattle.minuska.proofs.ItemLaw.{variable-item, call-item, plain-item, term-appended}
 use Rattle.minuska.proofs.PlaceLaw.{stands-first, stands-second, stands-head, stands-word}
+use Rattle.term.specs.TermAt.{TermAt, TermEnds}
 use Rattle.value.specs.declared.Evaluated.{Evaluated}
 use Rattle.value.specs.declared.Value.the-variants as W
-use Rattle.value.specs.Value.{valueWords, Within, IsValue}
-use Rattle.value.specs.Evaluate.{Placed, HasValue, ExpressionIn, EvaluateContract}
-use Rattle.step.specs.Right.{Rest, SomeRest, Leads, ItemOf, ItemIs}
+use Rattle.value.specs.Value.{valueWords, Within, sizeOf, Ordered}
+use Rattle.value.specs.Evaluate.{HasValue, ExpressionIn, EvaluateContract}
+use Rattle.value.proofs.WordsLaw.{size-is, within-ordered}
+use Rattle.step.specs.Right.{Rest, SomeRest, Leads, ItemOf, ItemIs, SizedOf, SomeItem, PieceIs, SizedIs}
+use Rattle.step.proofs.MatchingLaw.{word, childless}
+use Rattle.step.proofs.MatchingVariable.{tag-three}
 
 -- ---- labels by their tag word
-tag-variable : (l : Label) (k : ℕ) → tagWord l k ≡ pos 3 → (v : ℕ) × (role l ≡ aVariable v)
-tag-variable error k e = absurd (let z : _≡_ {A = ℕ} 0 3 = cc in let f : ⊥ = omega arith in f)
-tag-variable (truth b) k e = absurd (let z : _≡_ {A = ℕ} 1 3 = cc in let f : ⊥ = omega arith in f)
-tag-variable (whole x) k e = absurd (let z : _≡_ {A = ℕ} 2 3 = cc in let f : ⊥ = omega arith in f)
-tag-variable (variable v) k e = (v, refl)
-tag-variable (call c) k e = absurd (let z : _≡_ {A = ℕ} 4 3 = cc in let f : ⊥ = omega arith in f)
-tag-variable (symbol s) k e = absurd (let z : 8 + k ≡ 3 = cc in let f : ⊥ = omega arith in f)
-
-pub tag-call : (l : Label) (k : ℕ) → tagWord l k ≡ pos 4 → (c : ℕ) × (role l ≡ aCall c)
+tag-call : (l : Label) (k : ℕ) → tagWord l k ≡ pos 4 → (c : ℕ) × (role l ≡ aCall c)
 tag-call error k e = absurd (let z : _≡_ {A = ℕ} 0 4 = cc in let f : ⊥ = omega arith in f)
 tag-call (truth b) k e = absurd (let z : _≡_ {A = ℕ} 1 4 = cc in let f : ⊥ = omega arith in f)
 tag-call (whole x) k e = absurd (let z : _≡_ {A = ℕ} 2 4 = cc in let f : ⊥ = omega arith in f)
@@ -54,156 +51,190 @@ tag-plain (variable v) k f g = absurd (f refl)
 tag-plain (call c) k f g = absurd (g refl)
 tag-plain (symbol s) k f g = refl
 
-module _ (ws cs : List ℤ) (starts ends : List ℕ) (at end : ℕ) (ρ : Valuation) where
-  -- ---- the first node of the rest
-  pub first-tag : (l : Label) (ls ss : Forest) (us : List ℤ) → Rest ws cs starts ends at end ρ (node l ls ss) us → getD ws at (pos 0) ≡ tagWord l (termCount ls)
-  first-tag l ls ss us r = stands-head (r .stands) (pos 0)
+-- a node stands before the end, and its tag is read there
+first : {ws cs : List ℤ} {starts ends : List ℕ} {at end : ℕ} {ρ : Valuation} {X : Type 0} (f : Forest) {us : List ℤ} → at < end → Rest ws cs starts ends at end ρ f us → ((l : Label) (ls ss : Forest) → Rest ws cs starts ends at end ρ (node l ls ss) us → word ws at ≡ tagWord l (termCount ls) → X) → X
+first nil below r go = absurd (let e = r .upTo in let f : ⊥ = omega arith in f)
+first (node l ls ss) below r go = go l ls ss r (stands-head (r .stands) (pos 0))
 
-  module _ (l : Label) (ls ss : Forest) (us : List ℤ) (r : Rest ws cs starts ends at end ρ (node l ls ss) us) where
-    abbrev this : Term
-    this = record { label = l; children = ls }
+-- a function's value is one node
+abbrev OneNode : Term → Type 0
+OneNode t = 2 ≡ length (encode (single t))
 
-    pub standing : Stands ws at (encode (single this) ++ encode ss)
-    standing = subst (Stands ws at) (first-words l ls ss) (r .stands)
+one-if : (b : Bool) (z : ℤ) → OneNode (cond b (leaf (whole z)) outOfRange)
+one-if true z = refl
+one-if false z = refl
 
-    behind : (words : List ℤ) → emit ρ ss ≡ some words → Rest ws cs starts ends (at + length (encode (single this))) end ρ ss words
-    behind words e =
-        let a = expressionAt (role l) (isExpression ls) (isExpressionTerm ls) in
+one-node : (c : ℕ) (xs : Forest) → OneNode (interpret c xs)
+one-node = every-value OneNode (λ b. refl) refl (λ z. one-if (inWord z) z) (λ a b c. one-if (shareRange a b c) _)
+
+-- a variable's number is below 16, and its part is the item
+record VariableItem (ws cs : List ℤ) (starts ends : List ℕ) (at end : ℕ) (ρ : Valuation) (us : List ℤ) (v : ℕ) : Type 0 where
+  datum : T (nonNeg (word ws (at + 1)))
+  low : v < 16
+  item : ItemOf ws cs starts ends at end ρ us (record { value = W.Configuration (getD starts v 0) (getD ends v 0); next = at + 2 })
+
+module _ {ws cs : List ℤ} {starts ends : List ℕ} {at end : ℕ} {ρ : Valuation} {l : Label} {ls ss : Forest} {us : List ℤ} (r : Rest ws cs starts ends at end ρ (node l ls ss) us) where
+  -- ---- the first term, and the rest behind it
+  abbrev this : Term
+  this = record { label = l; children = ls }
+
+  standing : Stands ws at (encode (single this) ++ encode ss)
+  standing = subst (Stands ws at) (first-words l ls ss) (r .stands)
+
+  abbrev term-here : TermAt ws at
+  term-here =
+      let o = okay l ls ss (r .good) in
+      record { term = this; good = okay-all l ls nil (o .allowed) (o .children) tt; stands = stands-first (encode (single this)) (encode ss) standing }
+
+  behind : (words : List ℤ) → emit ρ ss ≡ some words → Rest ws cs starts ends (at + length (encode (single this))) end ρ ss words
+  behind words e =
+      let a = expressionAt (role l) (isExpression ls) (isExpressionTerm ls) in
+      record {
+        good = okay l ls ss (r .good) .rest;
+        shape = and-right a (isExpressionTerm ss) (r .shape);
+        stands = stands-second (encode (single this)) (encode ss) standing;
+        upTo = r .upTo ∙ omega (arith, ap length (first-words l ls ss), length-append (encode (single this)) (encode ss));
+        emits = e;
+        binds = r .binds;
+      }
+
+  -- a term's words are emitted for the first term
+  leads-on : (t : Term) (words : List ℤ) → encode (single t) ++ words ≡ us → emit ρ ss ≡ some words → Leads ws cs starts ends at end ρ us (encode (single t)) (at + length (encode (single this)))
+  leads-on t words p e = record { later = ss; words = words; parted = p; forward = omega arith; rest = behind words e }
+
+  expression-shape : T (expressionAt (role l) (isExpression ls) (isExpressionTerm ls))
+  expression-shape = and-left (expressionAt (role l) (isExpression ls) (isExpressionTerm ls)) (isExpressionTerm ss) (r .shape)
+
+  -- ---- a variable
+  variable-here : tagWord l (termCount ls) ≡ pos 3 → (v : ℕ) → v ≡ natAbs (word ws (at + 1)) → VariableItem ws cs starts ends at end ρ us v
+  unfolding valueWords Within
+  variable-here h v e =
+      let t = tag-three l (termCount ls) h in
+      let d : word ws (at + 1) ≡ pos (t .0) = stands-word (r .stands) 1 (pos 0) (omega arith) ∙ ap datumWord (t .1) in
+      let p : l ≡ variable v = t .1 ∙ ap variable (sym (e ∙ ap natAbs d)) in
+      let i = variable-item ρ l ls ss us (r .emits) v (ap role p) in
+      let b = r .binds .places v (i .0) (i .2) in
+      let x : T (okNode (variable v) ls) = subst (λ (m : Label). T (okNode m ls)) p (okay l ls ss (r .good) .allowed) in
+      let z : ls ≡ nil = childless ls (eqb→eq (termCount ls) 0 (and-right (ltb v 16) (eqb (termCount ls) 0) x)) in
+      let q : at + length (encode (single this)) ≡ at + 2 = ap (λ (f : Forest). at + length (encode (node l f nil))) z in
+      let m : getD ends v 0 - getD starts v 0 ≡ length (encode (single (i .0))) = omega (arith, b .ends) in
+      let k : part cs (getD starts v 0) (getD ends v 0) ≡ encode (single (i .0)) = ap (λ (j : ℕ). take j (drop (getD starts v 0) cs)) m ∙ b .stands .words in
+      record {
+        datum = subst⁻¹ (λ (y : ℤ). T (nonNeg y)) d tt;
+        low = b .variable;
+        item = record { within = (omega (arith, b .ends), omega (arith, b .ends, b .stands .within)); leads = subst₂ (λ (vs : List ℤ) (j : ℕ). Leads ws cs starts ends at end ρ us vs j) (sym k) q (leads-on (i .0) (i .1) (i .3) (i .4)) };
+      }
+
+  -- ---- a call: an expression that is worth a function's value
+  module _ (tag : tagWord l (termCount ls) ≡ pos 4) where
+    record CallItem : Type 0 where
+      code : ℕ
+      arguments : Forest
+      has : HasValue ws cs starts ends at ρ this (interpret code arguments)
+      leads : Leads ws cs starts ends at end ρ us (encode (single (interpret code arguments))) (at + length (encode (single this)))
+
+    call-here : CallItem
+    call-here =
+        let (c, k) = tag-call l (termCount ls) tag in
+        let i = call-item ρ l ls ss us (r .emits) c k in
+        let x = subst (λ (z : Role). T (expressionAt z (isExpression ls) (isExpressionTerm ls))) k expression-shape in
+        let y : T (isExpression (single this)) = subst (λ (z : Role). T (expressionAt z (isExpression ls) (isGround ls) && isExpression nil)) (sym k) (and-both (isExpression ls) (isExpression nil) x tt) in
+        let v : value ρ this ≡ some (interpret c (i .0)) =
+        subst (λ (z : Role). valueAt ρ z l (values ρ ls) ≡ some (interpret c (i .0))) (sym k) (ap (λ (o : Option Forest). o >>= λ ys. some (interpret c ys)) (i .2)) in
         record {
-          good = okay l ls ss (r .good) .rest;
-          shape = and-right a (isExpressionTerm ss) (r .shape);
-          stands = stands-second (encode (single this)) (encode ss) standing;
-          upTo = r .upTo ∙ omega (arith, ap length (first-words l ls ss), length-append (encode (single this)) (encode ss));
-          emits = e;
-          binds = r .binds;
+          code = c;
+          arguments = i .0;
+          has = record { placed = record { good = term-here .good; expressions = y; stands = term-here .stands; binds = r .binds }; is = v };
+          leads = leads-on (interpret c (i .0)) (i .1) (i .3) (i .4);
         }
 
-    -- a term's words, and the rest behind the first term
-    pub leads-on : (t : Term) (words : List ℤ) → encode (single t) ++ words ≡ us → emit ρ ss ≡ some words → Leads ws cs starts ends at end ρ us (encode (single t)) (at + length (encode (single this)))
-    leads-on t words p e = record { later = ss; words = words; parted = p; forward = omega arith; rest = behind words e }
+    expression-in : ExpressionIn ws cs starts ends at
+    expression-in = let g = call-here in record { valuation = ρ; expression = this; term = interpret (g .code) (g .arguments); has = g .has }
 
-    -- ---- a variable or a call: an expression that is worth a term
-    module _ (t : Term) (words : List ℤ) (v : value ρ this ≡ some t) (p : encode (single t) ++ words ≡ us) (e : emit ρ ss ≡ some words) (x : T (isExpression (single this))) where
-      has : HasValue ws cs starts ends at ρ this t
-      has =
-          let o = okay l ls ss (r .good) in
-          record { placed = record { good = okay-all l ls nil (o .allowed) (o .children) tt; expressions = x; stands = stands-first (encode (single this)) (encode ss) standing; binds = r .binds }; is = v }
+    evaluated-item : (s : Evaluated) → EvaluateContract ws cs starts ends at s → ItemOf ws cs starts ends at end ρ us s
+    evaluated-item s c =
+        let g = call-here in
+        let m = c .meant ρ this (interpret (g .code) (g .arguments)) (g .has) in
+        record { within = m .is .within; leads = subst₂ (λ (vs : List ℤ) (n : ℕ). Leads ws cs starts ends at end ρ us vs n) (sym (m .is .words)) (sym (m .next)) (g .leads) }
 
-      expression-item : (s : Evaluated) → EvaluateContract ws cs starts ends at s → ItemOf ws cs starts ends at end ρ us s
-      expression-item s c =
-          let m = c .meant ρ this t has in
-          record { within = m .is .within; leads = subst₂ (λ (vs : List ℤ) (n : ℕ). Leads ws cs starts ends at end ρ us vs n) (sym (m .is .words)) (sym (m .next)) (leads-on t words p e) }
+    call-size : (e : ℕ) → TermEnds ws at e → SizedOf ws cs starts ends at end ρ us (record { words = 2; next = e })
+    call-size e x =
+        let g = call-here in
+        let v = encode (single (interpret (g .code) (g .arguments))) in
+        record { first = v; many = one-node (g .code) (g .arguments); leads = subst (λ (n : ℕ). Leads ws cs starts ends at end ρ us v n) (sym (x .ends this (term-here .good) (term-here .stands))) (g .leads) }
 
-    expression-shape : T (expressionAt (role l) (isExpression ls) (isExpressionTerm ls))
-    expression-shape = and-left (expressionAt (role l) (isExpression ls) (isExpressionTerm ls)) (isExpressionTerm ss) (r .shape)
+  -- ---- a plain node: its two words as they stand
+  abbrev two : List ℤ
+  two = tagWord l (termCount ls) ∷ datumWord l ∷ []
 
-    variable-shape : (v : ℕ) → role l ≡ aVariable v → T (isExpression (single this))
-    variable-shape v e = subst (λ (z : Role). T (expressionAt z (isExpression ls) (isGround ls) && isExpression nil)) (sym e) tt
+  flattened : encode (node l ls ss) ≡ two ++ encode (appended ls ss)
+  flattened = ap (λ (z : List ℤ). tagWord l (termCount ls) ∷ datumWord l ∷ z) (sym (encode-appended ls ss))
 
-    call-shape : (c : ℕ) → role l ≡ aCall c → T (isExpression (single this))
-    call-shape c e =
-        subst (λ (z : Role). T (expressionAt z (isExpression ls) (isGround ls) && isExpression nil)) (sym e)
-        (and-both (isExpression ls) (isExpression nil) (subst (λ (z : Role). T (expressionAt z (isExpression ls) (isExpressionTerm ls))) e expression-shape) tt)
+  two-stand : Stands ws at (two ++ encode (appended ls ss))
+  two-stand = subst (Stands ws at) flattened (r .stands)
 
-    -- what `evaluate` needs, and the item that it gives
-    module _ (tag : (tagWord l (termCount ls) ≡ pos 3) ⊎ (tagWord l (termCount ls) ≡ pos 4)) where
-      record Evaluating : Type 0 where
-        term : Term
-        words : List ℤ
-        is : value ρ this ≡ some term
-        parts : encode (single term) ++ words ≡ us
-        later : emit ρ ss ≡ some words
-        shape : T (isExpression (single this))
+  node-leads : (tagWord l (termCount ls) ≡ pos 3 → ⊥) → (tagWord l (termCount ls) ≡ pos 4 → ⊥) → Leads ws cs starts ends at end ρ us two (at + 2)
+  node-leads f g =
+      let k = tag-plain l (termCount ls) f g in
+      let i = plain-item ρ l ls ss us (r .emits) k in
+      let o = okay l ls ss (r .good) in
+      record {
+        later = appended ls ss;
+        words = i .0;
+        parted = i .1;
+        forward = omega arith;
+        rest =
+            record {
+              good = appended-ok ls ss (o .children) (o .rest);
+              shape = term-appended ls ss (subst (λ (z : Role). T (expressionAt z (isExpression ls) (isExpressionTerm ls))) k expression-shape) (and-right (expressionAt (role l) (isExpression ls) (isExpressionTerm ls)) (isExpressionTerm ss) (r .shape));
+              stands = stands-second two (encode (appended ls ss)) two-stand;
+              upTo = r .upTo ∙ omega (arith, ap length flattened, length-append two (encode (appended ls ss)));
+              emits = i .2;
+              binds = r .binds;
+            };
+      }
 
-      evaluating : Evaluating
-      evaluating = ⊎-elim as-variable as-call tag
-        where
-          as-variable : tagWord l (termCount ls) ≡ pos 3 → Evaluating
-          as-variable h =
-              let (v, k) = tag-variable l (termCount ls) h in
-              let i = variable-item ρ l ls ss us (r .emits) v k in
-              record { term = i .0; words = i .1; is = subst (λ (z : Role). valueAt ρ z l (values ρ ls) ≡ some (i .0)) (sym k) (i .2); parts = i .3; later = i .4; shape = variable-shape v k }
+  node-item : (tagWord l (termCount ls) ≡ pos 3 → ⊥) → (tagWord l (termCount ls) ≡ pos 4 → ⊥) → ItemOf ws cs starts ends at end ρ us (record { value = W.Table at (at + 2); next = at + 2 })
+  unfolding valueWords Within
+  node-item f g =
+      let h : Stands ws at two = stands-first two (encode (appended ls ss)) two-stand in
+      let n : at + 2 - at ≡ 2 = omega arith in
+      record { within = (omega arith, h .within); leads = subst (λ (vs : List ℤ). Leads ws cs starts ends at end ρ us vs (at + 2)) (sym (ap (λ (m : ℕ). take m (drop at ws)) n ∙ h .words)) (node-leads f g) }
 
-          as-call : tagWord l (termCount ls) ≡ pos 4 → Evaluating
-          as-call h =
-              let (c, k) = tag-call l (termCount ls) h in
-              let i = call-item ρ l ls ss us (r .emits) c k in
-              record { term = interpret c (i .0); words = i .1; is = subst (λ (z : Role). valueAt ρ z l (values ρ ls) ≡ some (interpret c (i .0))) (sym k) (ap (λ (o : Option Forest). o >>= λ ys. some (interpret c ys)) (i .2)); parts = i .3; later = i .4; shape = call-shape c k }
+-- ---- `piece`, by the tag that it reads
+module _ (ws : List ℤ) (starts ends : List ℕ) (at : ℕ) where
+  pub node-within : SomeItem ws starts ends at → at + 2 ≤ length ws
+  node-within s = first (s .rest .terms) (s .before) (s .rest .is) λ l ls ss r t. omega (arith, r .stands .within)
 
-      pub item-needs : ExpressionIn ws cs starts ends at
-      item-needs = let g = evaluating in record { valuation = ρ; expression = this; term = g .term; has = has (g .term) (g .words) (g .is) (g .parts) (g .later) (g .shape) }
+  module _ (three : word ws at ≡ pos 3) (v : ℕ) (number : v ≡ natAbs (word ws (at + 1))) where
+    pub variable-fits : SomeItem ws starts ends at → T (nonNeg (word ws (at + 1))) × (v < 16)
+    variable-fits s = first (s .rest .terms) (s .before) (s .rest .is) λ l ls ss r t. let x = variable-here r (sym t ∙ three) v number in (x .datum, x .low)
 
-      pub evaluated-item : (s : Evaluated) → EvaluateContract ws cs starts ends at s → ItemOf ws cs starts ends at end ρ us s
-      evaluated-item s c = let g = evaluating in expression-item (g .term) (g .words) (g .is) (g .parts) (g .later) (g .shape) s c
+    pub variable-is : PieceIs ws starts ends at (record { value = W.Configuration (getD starts v 0) (getD ends v 0); next = at + 2 })
+    variable-is = record { is = λ cs end ρ f us below r. first f below r (λ l ls ss k t. variable-here k (sym t ∙ three) v number .item) }
 
-    -- ---- a plain node: its two words as they stand
-    abbrev pub two : List ℤ
-    two = tagWord l (termCount ls) ∷ datumWord l ∷ []
+  pub node-is : (word ws at ≡ pos 3 → ⊥) → (word ws at ≡ pos 4 → ⊥) → PieceIs ws starts ends at (record { value = W.Table at (at + 2); next = at + 2 })
+  node-is f g = record { is = λ cs end ρ h us below r. first h below r (λ l ls ss k t. node-item k (λ e. f (t ∙ e)) (λ e. g (t ∙ e))) }
 
-    flattened : encode (node l ls ss) ≡ two ++ encode (appended ls ss)
-    flattened = ap (λ (z : List ℤ). tagWord l (termCount ls) ∷ datumWord l ∷ z) (sym (encode-appended ls ss))
+-- ---- `item` at a call
+module _ (ws cs : List ℤ) (starts ends : List ℕ) (at end : ℕ) (below : at < end) (four : word ws at ≡ pos 4) where
+  pub evaluate-needs : SomeRest ws cs starts ends at end → ExpressionIn ws cs starts ends at
+  evaluate-needs s = first (s .terms) below (s .is) λ l ls ss r t. expression-in r (sym t ∙ four)
 
-    two-stand : Stands ws at (two ++ encode (appended ls ss))
-    two-stand = subst (Stands ws at) flattened (r .stands)
+  pub evaluated-is : (s : Evaluated) → EvaluateContract ws cs starts ends at s → ItemIs ws cs starts ends at end s
+  evaluated-is s c = record { is = λ ρ f us r. first f below r (λ l ls ss k t. evaluated-item k (sym t ∙ four) s c) }
 
-    pub node-leads : (tagWord l (termCount ls) ≡ pos 3 → ⊥) → (tagWord l (termCount ls) ≡ pos 4 → ⊥) → Leads ws cs starts ends at end ρ us two (at + 2)
-    node-leads f g =
-        let k = tag-plain l (termCount ls) f g in
-        let i = plain-item ρ l ls ss us (r .emits) k in
-        let o = okay l ls ss (r .good) in
-        record {
-          later = appended ls ss;
-          words = i .0;
-          parted = i .1;
-          forward = omega arith;
-          rest =
-              record {
-                good = appended-ok ls ss (o .children) (o .rest);
-                shape = term-appended ls ss (subst (λ (z : Role). T (expressionAt z (isExpression ls) (isExpressionTerm ls))) k expression-shape) (and-right (expressionAt (role l) (isExpression ls) (isExpressionTerm ls)) (isExpressionTerm ss) (r .shape));
-                stands = stands-second two (encode (appended ls ss)) two-stand;
-                upTo = r .upTo ∙ omega (arith, ap length flattened, length-append two (encode (appended ls ss)));
-                emits = i .2;
-                binds = r .binds;
-              };
-        }
+-- ---- `item_size`: a call's value is one node, and any other item is a piece
+module _ (ws : List ℤ) (starts ends : List ℕ) (at : ℕ) where
+  pub call-stands : SomeItem ws starts ends at → TermAt ws at
+  call-stands s = first (s .rest .terms) (s .before) (s .rest .is) λ l ls ss r t. term-here r
 
-    node-item : (tagWord l (termCount ls) ≡ pos 3 → ⊥) → (tagWord l (termCount ls) ≡ pos 4 → ⊥) → ItemOf ws cs starts ends at end ρ us (record { value = W.Table at (at + 2); next = at + 2 })
-    unfolding valueWords Within
-    node-item f g =
-        let h : Stands ws at two = stands-first two (encode (appended ls ss)) two-stand in
-        let n : at + 2 - at ≡ 2 = omega arith in
-        record { within = (omega arith, h .within); leads = subst (λ (vs : List ℤ). Leads ws cs starts ends at end ρ us vs (at + 2)) (sym (ap (λ (m : ℕ). take m (drop at ws)) n ∙ h .words)) (node-leads f g) }
+  pub call-sized : word ws at ≡ pos 4 → (e : ℕ) → TermEnds ws at e → SizedIs ws starts ends at (record { words = 2; next = e })
+  call-sized four e x = record { is = λ cs end ρ f us below r. first f below r (λ l ls ss k t. call-size k (sym t ∙ four) e x) }
 
--- ---- `item`, before the end, by the tag that it reads
-module _ (ws cs : List ℤ) (starts ends : List ℕ) (at end : ℕ) (below : at < end) (tag : ℤ) (read : tag ≡ getD ws at (pos 0)) where
-  none-there : (ρ : Valuation) (us : List ℤ) → Rest ws cs starts ends at end ρ nil us → ⊥
-  none-there ρ us r = let e = r .upTo in omega arith
+  module _ (s : Evaluated) (x : PieceIs ws starts ends at s) where
+    pub piece-ordered : SomeItem ws starts ends at → Ordered (s .value)
+    piece-ordered i = let g = i .rest in within-ordered ws (i .configuration) (s .value) (x .is (i .configuration) (i .end) (g .valuation) (g .terms) (g .words) (i .before) (g .is) .within)
 
-  tag-is : (ρ : Valuation) (l : Label) (ls ss : Forest) (us : List ℤ) → Rest ws cs starts ends at end ρ (node l ls ss) us → tag ≡ tagWord l (termCount ls)
-  tag-is ρ l ls ss us r = read ∙ first-tag ws cs starts ends at end ρ l ls ss us r
-
-  module _ (z : ℤ) (t : tag ≡ z) (which : (z ≡ pos 3) ⊎ (z ≡ pos 4)) where
-    tagged : (w : ℤ) → tag ≡ w → (w ≡ pos 3) ⊎ (w ≡ pos 4)
-    tagged w e = subst (λ (x : ℤ). (x ≡ pos 3) ⊎ (x ≡ pos 4)) (sym t ∙ e) which
-
-    needs-of : (ρ : Valuation) (f : Forest) (us : List ℤ) → Rest ws cs starts ends at end ρ f us → ExpressionIn ws cs starts ends at
-    needs-of ρ nil us r = absurd (none-there ρ us r)
-    needs-of ρ (node l ls ss) us r = item-needs ws cs starts ends at end ρ l ls ss us r (tagged (tagWord l (termCount ls)) (tag-is ρ l ls ss us r))
-
-    pub evaluate-needs : SomeRest ws cs starts ends at end → ExpressionIn ws cs starts ends at
-    evaluate-needs s = needs-of (s .valuation) (s .terms) (s .words) (s .is)
-
-    pub evaluated-is : (r : Evaluated) → EvaluateContract ws cs starts ends at r → ItemIs ws cs starts ends at end r
-    evaluated-is r c = record { is = each }
-      where
-        each : (ρ : Valuation) (f : Forest) (us : List ℤ) → Rest ws cs starts ends at end ρ f us → ItemOf ws cs starts ends at end ρ us r
-        each ρ nil us x = absurd (none-there ρ us x)
-        each ρ (node l ls ss) us x = evaluated-item ws cs starts ends at end ρ l ls ss us x (tagged (tagWord l (termCount ls)) (tag-is ρ l ls ss us x)) r c
-
-  pub node-is : (tag ≡ pos 3 → ⊥) → (tag ≡ pos 4 → ⊥) → ItemIs ws cs starts ends at end (record { value = W.Table at (at + 2); next = at + 2 })
-  node-is f g = record { is = each }
-    where
-      each : (ρ : Valuation) (h : Forest) (us : List ℤ) → Rest ws cs starts ends at end ρ h us → ItemOf ws cs starts ends at end ρ us (record { value = W.Table at (at + 2); next = at + 2 })
-      each ρ nil us x = absurd (none-there ρ us x)
-      each ρ (node l ls ss) us x =
-          node-item ws cs starts ends at end ρ l ls ss us x (λ e. f (tag-is ρ l ls ss us x ∙ e)) (λ e. g (tag-is ρ l ls ss us x ∙ e))
+    pub piece-sized : (n : ℕ) → n ≡ sizeOf (s .value) → SizedIs ws starts ends at (record { words = n; next = s .next })
+    piece-sized n e = record { is = λ cs end ρ f us below r. let g = x .is cs end ρ f us below r in record { first = valueWords ws cs (s .value); many = e ∙ sym (size-is ws cs (s .value) (g .within)); leads = g .leads } }

@@ -1,20 +1,17 @@
 -- All items of a right: the turns of `measure_right` and `write_right`.
-use mathlib.Core.Path.{_≡_, refl, sym, _∙_, ap, subst}
-use mathlib.Core.Bool.{cond}
-use mathlib.Core.Option.{some, Option·some-injective}
-use mathlib.Core.List.{List, [], _∷_, _++_, append-assoc, append-nil}
+use mathlib.Core.Path.{_≡_, refl, sym, _∙_, ap}
+use mathlib.Core.Option.{Option·some-injective}
+use mathlib.Core.List.{List, [], _++_, append-assoc, append-nil}
 use Prim.Native.Nat.{ℕ, _+_, _-_, _≤_, _<_}
 use native.Mathlib.Nat.{add-zero}
 use native.Mathlib.Omega.{arith}
 use lib.IntN.{ℤ}
-use lib.ListN.{length, take, drop, length-append}
+use lib.ListN.{length, drop, length-append}
 use lib.Seq.{take-append-seam, drop-append-seam, drop-drop}
 use borrow.Author.Tests.{le-leb, lt-leb}
-use Rattle.minuska.specs.Term.{Label, Forest, nil, node}
-use Rattle.minuska.specs.Word.{encode}
+use Rattle.minuska.specs.Term.{Forest, nil, node}
 use Rattle.minuska.specs.Satisfaction.{Valuation}
 use Rattle.minuska.specs.Slice.{write}
-use Rattle.minuska.specs.Computed.Walk.{emit}
 use Rattle.value.specs.declared.Evaluated.{Evaluated}
 use Rattle.value.specs.Value.{valueWords, Within, sizeOf}
 use Rattle.value.specs.Copy.{written}
@@ -22,7 +19,7 @@ use Rattle.value.proofs.WordsLaw.{size-is}
 use Rattle.step.specs.declared.right.Sized.{Sized}
 use Rattle.step.specs.declared.right.Fit.the-variants.{Words, TooLarge}
 use Rattle.step.specs.Apply.{fitOf}
-use Rattle.step.specs.Right.{Rest, SomeRest, Leads, ItemOf, ItemIs, SizedOf, SizedFrom, SizedIs, MeasureRightIs, FittingRest, WriteRightIs}
+use Rattle.step.specs.Right.{Rest, SomeRest, Leads, ItemOf, ItemIs, SizedOf, SomeItem, SizedIs, MeasureRightIs, FittingRest, WriteRightIs}
 
 module _ (ws cs : List ℤ) (starts ends : List ℕ) (at end : ℕ) where
   -- how far the items have come: the words so far, and the rest from place i on
@@ -67,7 +64,7 @@ module _ (ws cs : List ℤ) (starts ends : List ℕ) (at end : ℕ) where
   measuring-first room = record { come = λ ρ f us r. ([], come-first ρ f us r, add-zero room) }
 
   module _ (room i left : ℕ) (m : Measuring room i left) where
-    pub measuring-rest : SomeRest ws cs starts ends at end → i < end → SizedFrom ws starts ends i
+    pub measuring-rest : SomeRest ws cs starts ends at end → i < end → SomeItem ws starts ends i
     measuring-rest s below =
         let (so-far, c, e) = m .come (s .valuation) (s .terms) (s .words) (s .is) in
         record { configuration = cs; end = end; before = below; rest = record { valuation = s .valuation; terms = c .later; words = c .words; is = c .rest } }

@@ -4,8 +4,8 @@ use mathlib.Core.Option.{some}
 use mathlib.Core.List.{List, _++_}
 use Prim.Native.Nat.{ℕ, _+_, _≤_, _<_}
 use lib.Dec.{T}
-use lib.IntN.{ℤ}
-use lib.ListN.{length}
+use lib.IntN.{ℤ, pos}
+use lib.ListN.{length, getD}
 use Rattle.minuska.specs.Term.{Forest}
 use Rattle.minuska.specs.Word.{ok, encode}
 use Rattle.minuska.specs.Satisfaction.{Valuation}
@@ -68,13 +68,20 @@ module _ (ws cs : List ℤ) (starts ends : List ℕ) where
   pub record WriteRightIs (at end : ℕ) (out out′ : List ℤ) : Type 0 where
     pub is : (ρ : Valuation) (f : Forest) (us : List ℤ) → Rest at end ρ f us → out′ ≡ write us out
 
--- The size of an item shows in the table and in the two arrays alone, whatever configuration they point into.
+-- Where an item lies, and its size, show in the table and in the two arrays alone, whatever configuration they point into.
 module _ (ws : List ℤ) (starts ends : List ℕ) (at : ℕ) where
-  pub record SizedFrom : Type 0 where
+  pub record SomeItem : Type 0 where
     pub configuration : List ℤ
     pub end : ℕ
     pub before : at < end
     pub rest : SomeRest ws configuration starts ends at end
+
+  pub record SomePiece : Type 0 where
+    pub item : SomeItem
+    pub noCall : getD ws at (pos 0) ≡ pos 4 → ⊥
+
+  pub record PieceIs (r : Evaluated) : Type 0 where
+    pub is : (cs : List ℤ) (end : ℕ) (ρ : Valuation) (f : Forest) (us : List ℤ) → at < end → Rest ws cs starts ends at end ρ f us → ItemOf ws cs starts ends at end ρ us r
 
   pub record SizedIs (r : Sized) : Type 0 where
     pub is : (cs : List ℤ) (end : ℕ) (ρ : Valuation) (f : Forest) (us : List ℤ) → at < end → Rest ws cs starts ends at end ρ f us → SizedOf ws cs starts ends at end ρ us r

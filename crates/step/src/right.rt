@@ -3,7 +3,7 @@ use value::Evaluated;
 use value::Value;
 ghost use Prim.Native.Nat.{_<_};
 ghost use lib.ListN.{length};
-ghost use Rattle.step.specs.Right.{SomeRest, ItemIs, SizedFrom, SizedIs, MeasureRightIs, FittingRest, WriteRightIs};
+ghost use Rattle.step.specs.Right.{SomeRest, ItemIs, SomeItem, SomePiece, PieceIs, SizedIs, MeasureRightIs, FittingRest, WriteRightIs};
 
 // How many words a successor has, or that there is no room for them.
 pub enum Fit {
@@ -11,7 +11,27 @@ pub enum Fit {
     TooLarge,
 }
 
-// One item: a variable's part or a call's value; else a node's two words as they stand.
+// One item that is no call, where it lies: a variable's part of the configuration, or a node's two words of the table.
+pub fn piece(table: &[i64], at: usize, starts: &[usize; 16], ends: &[usize; 16]) -> Evaluated
+    requires { ⌜ SomePiece (now table) (now starts) (now ends) at ⌝ }
+    ensures { λ r. ⌜ PieceIs (now (table .entry)) (now (starts .entry)) (now (ends .entry)) at r ⌝ }
+{
+    if term::word(table, at) == 3 {
+        let v = term::word(table, at + 1) as usize;
+        let from = starts[v];
+        let to = ends[v];
+        return Evaluated {
+            value: Value::Configuration(from, to),
+            next: at + 2,
+        };
+    }
+    Evaluated {
+        value: Value::Table(at, at + 2),
+        next: at + 2,
+    }
+}
+
+// One item: a call's value; else where it lies.
 pub fn item(
     table: &[i64],
     configuration: &[i64],
@@ -23,17 +43,10 @@ pub fn item(
     requires { ⌜ SomeRest (now table) (now configuration) (now starts) (now ends) at end × (at < end) ⌝ }
     ensures { λ r. ⌜ ItemIs (now (table .entry)) (now (configuration .entry)) (now (starts .entry)) (now (ends .entry)) at end r ⌝ }
 {
-    let tag = term::word(table, at);
-    if tag == 3 {
+    if term::word(table, at) == 4 {
         return value::evaluate(table, configuration, at, starts, ends);
     }
-    if tag == 4 {
-        return value::evaluate(table, configuration, at, starts, ends);
-    }
-    Evaluated {
-        value: Value::Table(at, at + 2),
-        next: at + 2,
-    }
+    piece(table, at, starts, ends)
 }
 
 // How many words an item has, and the place behind it.
@@ -44,29 +57,22 @@ pub struct Sized {
 
 // One item's size, without its value: a call's value is one node, whatever its arguments are worth.
 pub fn item_size(table: &[i64], at: usize, starts: &[usize; 16], ends: &[usize; 16]) -> Sized
-    requires { ⌜ SizedFrom (now table) (now starts) (now ends) at ⌝ }
+    requires { ⌜ SomeItem (now table) (now starts) (now ends) at ⌝ }
     ensures { λ r. ⌜ SizedIs (now (table .entry)) (now (starts .entry)) (now (ends .entry)) at r ⌝ }
 {
-    let tag = term::word(table, at);
-    if tag == 3 {
-        let v = term::word(table, at + 1) as usize;
-        let from = starts[v];
-        let to = ends[v];
-        return Sized {
-            words: to - from,
-            next: at + 2,
-        };
-    }
-    if tag == 4 {
+    if term::word(table, at) == 4 {
         let next = term::expression_end(table, at);
         return Sized {
             words: 2,
             next: next,
         };
     }
+    let x = piece(table, at, starts, ends);
+    let v = x.value;
+    let n = value::size(v);
     Sized {
-        words: 2,
-        next: at + 2,
+        words: n,
+        next: x.next,
     }
 }
 
