@@ -201,10 +201,10 @@ fn children(t: i64, d: i64) -> usize
     requires { ⌜ NodeWords t d ⌝ }
     ensures { λ r. ⌜ Is r ≡ childCountOf t d ⌝ }
 {
-    if t == 4 {
-        return arity(d as usize);
+    if t != 4 {
+        return children_by_tag(t);
     }
-    children_by_tag(t)
+    arity(d as usize)
 }
 
 // The place behind the term that stands at a place, which may have variables and calls.

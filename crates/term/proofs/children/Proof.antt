@@ -17,11 +17,11 @@ use Rattle.term.proofs.children.Statement.{statement}
 use Rattle.term.proofs.children.Tie as tie
 
 -- a call's function code
-module _ (c : tie.Then1) where
+module _ (c : tie.Else1) where
   called : CallOf (c .before .args .d) (c .before .pre .count)
   called =
       let s = c .before in
-      call-node (s .args .t) (s .args .d) (s .pre) (same-bits (s .args .t) (pos 4) (s .fits .t) (record { sfits = lit< tt }) (c .if1 .taken))
+      call-node (s .args .t) (s .args .d) (s .pre) (same-bits (s .args .t) (pos 4) (s .fits .t) (record { sfits = lit< tt }) (c .if1 .left))
 
   number : Natural (c .before .args .d) 0
   number =
@@ -32,27 +32,27 @@ module _ (c : tie.Then1) where
   same : number .number ≡ called .code
   same = let e = number .is in let f = called .datum in cc
 
+children-by-tag-requires : tie.Need-children-by-tag-requires
+children-by-tag-requires c κs = search needs
+
+returns : tie.Need-returns
+returns c =
+    let e = c .before in
+    let s = e .before in
+    ap Is (c .children-by-tag .ensures ∙ ap childrenByTag (toZ-ofZ w64 (s .args .t) (s .fits .t))) ∙
+    other-node (s .args .t) (s .args .d) (s .pre) (λ q. e .if1 .taken (ap (ofZ w64) q))
+
 cast-arity : tie.Need-cast-arity
 cast-arity c = number c .cast
 
 arity-requires : tie.Need-arity-requires
 arity-requires c κs = rw (number c .gives, same c) (called c .low)
 
-returns : tie.Need-returns
-returns c =
+returns-2 : tie.Need-returns-2
+returns-2 c =
     let u = c .before in
     ap Is (c .arity .ensures ∙ (ap arityOf (number u .gives ∙ same u) ∙ called u .arity)) ∙ u .before .pre .is
 
-children-by-tag-requires : tie.Need-children-by-tag-requires
-children-by-tag-requires c κs = search needs
-
-returns-2 : tie.Need-returns-2
-returns-2 c =
-    let e = c .before in
-    let s = e .before in
-    ap Is (c .children-by-tag .ensures ∙ ap childrenByTag (toZ-ofZ w64 (s .args .t) (s .fits .t))) ∙
-    other-node (s .args .t) (s .args .d) (s .pre) (λ q. e .if1 .left (ap (ofZ w64) q))
-
 pub children-spec : {M : Type 1} → statement M
 children-spec =
-    tie.close (tie.spec cast-arity arity-requires returns children-by-tag-requires returns-2)
+    tie.close (tie.spec children-by-tag-requires returns cast-arity arity-requires returns-2)
