@@ -5,7 +5,6 @@ ghost use mathlib.Core.List.{[], _∷_, map};
 ghost use Prim.Native.Nat.{_+_, _-_, _*_, _≤_, _<_};
 ghost use lib.IntN.{pos, natAbs};
 ghost use lib.ListN.{length, getD};
-ghost use Rattle.minuska.specs.Answer.{number};
 ghost use Rattle.cli.specs.Decimal.{digits, decimal, wholeText};
 ghost use Rattle.cli.specs.Input.{continued, parted};
 ghost use Rattle.cli.specs.Output.{reproducedText, refusedText, notReproducedText};
@@ -155,27 +154,13 @@ pub fn written_words(words: &[i64]) -> usize
     at
 }
 
-fn refusal_number(refusal: Refusal) -> u64
-    ensures { λ r. ⌜ r ≡ number refusal ⌝ }
-{
-    match refusal {
-        Refusal::BadTable => 1,
-        Refusal::BadConfiguration => 2,
-        Refusal::TooLong => 3,
-        Refusal::BadLimit => 4,
-        Refusal::ShortBuffer => 5,
-        Refusal::OverLimit => 6,
-        Refusal::Unreadable => 7,
-    }
-}
-
 // `refused,` and the number.
 pub fn put_refusal(output: &mut [u8], refusal: Refusal) -> usize
     requires { ⌜ 64 ≤ length (now output) ⌝ }
     ensures { λ r. ⌜ Wrote (now (output .entry)) 0 (refusedText refusal) (now (output .exit)) r ⌝ }
 {
     let at = put_text(output, 0, b"refused,");
-    let end = put_decimal(output, at, refusal_number(refusal));
+    let end = put_decimal(output, at, minuska::number(refusal));
     put_byte(output, end, b'\n')
 }
 

@@ -1,29 +1,12 @@
 // An answer as one number: its kind in the low byte, its values above.
 use minuska::Check;
-use minuska::Refusal;
 use minuska::ReplayAnswer;
 use minuska::RunAnswer;
 use minuska::StepAnswer;
 ghost use mathlib.Core.Path.{_≡_};
 ghost use Prim.Native.Nat.{_+_, _*_, _≤_, _<_, _^_};
-ghost use Rattle.minuska.specs.Answer.{number};
 ghost use Rattle.hethalip.specs.Pack.{packCheck, packStep, packRun, packReplay};
 ghost use Rattle.hethalip.specs.Range.{StepInRange, RunInRange};
-
-// A refusal's number in document 01.
-fn refusal(why: Refusal) -> u64
-    ensures { λ r. ⌜ r ≡ number why ⌝ }
-{
-    match why {
-        Refusal::BadTable => 1,
-        Refusal::BadConfiguration => 2,
-        Refusal::TooLong => 3,
-        Refusal::BadLimit => 4,
-        Refusal::ShortBuffer => 5,
-        Refusal::OverLimit => 6,
-        Refusal::Unreadable => 7,
-    }
-}
 
 // A check.
 pub fn check(answer: Check) -> u64
@@ -31,7 +14,7 @@ pub fn check(answer: Check) -> u64
 {
     match answer {
         Check::Good => 0,
-        Check::Refused(why) => refusal(why),
+        Check::Refused(why) => minuska::number(why),
     }
 }
 
@@ -55,7 +38,7 @@ pub fn step(answer: StepAnswer) -> u64
             nodes,
         } => stepped(rule, action, nodes),
         StepAnswer::Stuck => 16,
-        StepAnswer::Refused(why) => refusal(why),
+        StepAnswer::Refused(why) => minuska::number(why),
     }
 }
 
@@ -76,7 +59,7 @@ pub fn run(answer: RunAnswer) -> u64
         RunAnswer::Stuck(k) => counted(18, k),
         RunAnswer::Spent(k) => counted(19, k),
         RunAnswer::Over(k) => counted(6, k),
-        RunAnswer::Refused(why) => refusal(why),
+        RunAnswer::Refused(why) => minuska::number(why),
     }
 }
 
@@ -87,6 +70,6 @@ pub fn replay(answer: ReplayAnswer) -> u64
     match answer {
         ReplayAnswer::Reproduced => 20,
         ReplayAnswer::NotReproduced => 21,
-        ReplayAnswer::Refused(why) => refusal(why),
+        ReplayAnswer::Refused(why) => minuska::number(why),
     }
 }

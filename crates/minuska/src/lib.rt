@@ -1,5 +1,8 @@
 // What the routines answer. The meaning of each answer is in specs/, the laws are in proofs/: README.md says which files must be believed.
 
+ghost use mathlib.Core.Path.{_≡_};
+ghost use Rattle.minuska.specs.Answer.{number};
+
 // Why a call is refused (document 01, "Turned back").
 pub enum Refusal {
     BadTable,
@@ -9,6 +12,21 @@ pub enum Refusal {
     ShortBuffer,
     OverLimit,
     Unreadable,
+}
+
+// Its number there.
+pub fn number(refusal: Refusal) -> u64
+    ensures { λ r. ⌜ r ≡ number refusal ⌝ }
+{
+    match refusal {
+        Refusal::BadTable => 1,
+        Refusal::BadConfiguration => 2,
+        Refusal::TooLong => 3,
+        Refusal::BadLimit => 4,
+        Refusal::ShortBuffer => 5,
+        Refusal::OverLimit => 6,
+        Refusal::Unreadable => 7,
+    }
 }
 
 // A check of a table or of a configuration.

@@ -10,8 +10,8 @@ enum-told c = search needs
 enum-known-answer : tie.Need-enum-known-answer
 enum-known-answer c = search needs
 
-refusal-requires : tie.Need-refusal-requires
-refusal-requires c κs = search needs
+number-requires : tie.Need-number-requires
+number-requires c κs = search needs
 
 returns : tie.Need-returns
 unfolding packCheck
@@ -19,7 +19,7 @@ returns c = rw (c .enum-told .given .1)
 
 returns-2 : tie.Need-returns-2
 unfolding packCheck
-returns-2 c = rw (c .before .before .answer .given .1) (c .refusal .ensures)
+returns-2 c = rw (c .before .before .answer .given .1) (c .number .ensures)
 
 pub check-spec : {M : Type 1} → statement M
-check-spec = tie.close (tie.spec enum-told enum-known-answer refusal-requires returns returns-2)
+check-spec = tie.close (tie.spec enum-told enum-known-answer number-requires returns returns-2)

@@ -13,8 +13,8 @@ enum-told-2 c = search needs
 enum-known-answer : tie.Need-enum-known-answer
 enum-known-answer c = search needs
 
-refusal-requires : tie.Need-refusal-requires
-refusal-requires c κs = search needs
+number-requires : tie.Need-number-requires
+number-requires c κs = search needs
 
 returns : tie.Need-returns
 unfolding packReplay
@@ -26,9 +26,9 @@ returns-2 c = rw (c .enum-told2 .given .1)
 
 returns-3 : tie.Need-returns-3
 unfolding packReplay
-returns-3 c = rw (c .before .before .answer .given .1) (c .refusal .ensures)
+returns-3 c = rw (c .before .before .answer .given .1) (c .number .ensures)
 
 pub replay-spec : {M : Type 1} → statement M
 replay-spec =
     tie.close
-    (tie.spec enum-told enum-told-2 enum-known-answer refusal-requires returns returns-2 returns-3)
+    (tie.spec enum-told enum-told-2 enum-known-answer number-requires returns returns-2 returns-3)

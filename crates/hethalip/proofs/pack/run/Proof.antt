@@ -29,8 +29,8 @@ counted-requires-3 c κs = (lit< tt, subst RunInRange (c .before .answer3 .given
 enum-known-answer-4 : tie.Need-enum-known-answer-4
 enum-known-answer-4 c = search needs
 
-refusal-requires : tie.Need-refusal-requires
-refusal-requires c κs = search needs
+number-requires : tie.Need-number-requires
+number-requires c κs = search needs
 
 returns : tie.Need-returns
 unfolding packRun
@@ -46,7 +46,7 @@ returns-3 c = rw (c .before .before .answer3 .given .1) (c .counted3 .ensures)
 
 returns-4 : tie.Need-returns-4
 unfolding packRun
-returns-4 c = rw (c .before .before .answer4 .given .1) (c .refusal .ensures)
+returns-4 c = rw (c .before .before .answer4 .given .1) (c .number .ensures)
 
 pub run-spec : {M : Type 1} → statement M
 run-spec =
@@ -59,7 +59,7 @@ run-spec =
     enum-known-answer-3
     counted-requires-3
     enum-known-answer-4
-    refusal-requires
+    number-requires
     returns
     returns-2
     returns-3

@@ -19,8 +19,8 @@ enum-told c = search needs
 enum-known-answer-2 : tie.Need-enum-known-answer-2
 enum-known-answer-2 c = search needs
 
-refusal-requires : tie.Need-refusal-requires
-refusal-requires c κs = search needs
+number-requires : tie.Need-number-requires
+number-requires c κs = search needs
 
 returns : tie.Need-returns
 unfolding packStep
@@ -32,7 +32,7 @@ returns-2 c = rw (c .enum-told .given .1)
 
 returns-3 : tie.Need-returns-3
 unfolding packStep
-returns-3 c = rw (c .before .before .answer2 .given .1) (c .refusal .ensures)
+returns-3 c = rw (c .before .before .answer2 .given .1) (c .number .ensures)
 
 pub step-spec : {M : Type 1} → statement M
 step-spec =
@@ -42,7 +42,7 @@ step-spec =
     stepped-requires
     enum-told
     enum-known-answer-2
-    refusal-requires
+    number-requires
     returns
     returns-2
     returns-3)

@@ -1,9 +1,7 @@
--- `refusal_number` meets its contract: a return for each refusal.
-use mathlib.Core.Path.{sym, ap}
-use Rattle.minuska.specs.Answer.{number}
 use borrow.Author.Needs.{needs}
-use Rattle.cli.proofs.print.refusal_number.Statement.{statement}
-use Rattle.cli.proofs.print.refusal_number.Tie as tie
+use Rattle.minuska.specs.Answer.{number}
+use Rattle.minuska.proofs.number.Statement.{statement}
+use Rattle.minuska.proofs.number.Tie as tie
 
 enum-told : tie.Need-enum-told
 enum-told c = search needs
@@ -28,34 +26,34 @@ enum-told-7 c = search needs
 
 returns : tie.Need-returns
 unfolding number
-returns c = sym (ap number (c .enum-told .given .1))
+returns c = rw (c .enum-told .given .1)
 
 returns-2 : tie.Need-returns-2
 unfolding number
-returns-2 c = sym (ap number (c .enum-told2 .given .1))
+returns-2 c = rw (c .enum-told2 .given .1)
 
 returns-3 : tie.Need-returns-3
 unfolding number
-returns-3 c = sym (ap number (c .enum-told3 .given .1))
+returns-3 c = rw (c .enum-told3 .given .1)
 
 returns-4 : tie.Need-returns-4
 unfolding number
-returns-4 c = sym (ap number (c .enum-told4 .given .1))
+returns-4 c = rw (c .enum-told4 .given .1)
 
 returns-5 : tie.Need-returns-5
 unfolding number
-returns-5 c = sym (ap number (c .enum-told5 .given .1))
+returns-5 c = rw (c .enum-told5 .given .1)
 
 returns-6 : tie.Need-returns-6
 unfolding number
-returns-6 c = sym (ap number (c .enum-told6 .given .1))
+returns-6 c = rw (c .enum-told6 .given .1)
 
 returns-7 : tie.Need-returns-7
 unfolding number
-returns-7 c = sym (ap number (c .enum-told7 .given .1))
+returns-7 c = rw (c .enum-told7 .given .1)
 
-pub refusal-number-spec : {M : Type 1} → statement M
-refusal-number-spec =
+pub number-spec : {M : Type 1} → statement M
+number-spec =
     tie.close
     (tie.spec
     enum-told
