@@ -22,15 +22,16 @@ use Rattle.minuska.proofs.ShutLaw.{replay-is, replay-out-reproduced, replay-out
 use Rattle.replay.specs.declared.search.Found.{Found}
 use Rattle.replay.specs.declared.search.Found.the-variants.{Path, Over, Nothing}
 use Rattle.replay.specs.Reading.{tableOf, termOf}
-use Rattle.replay.specs.Layout.{base, entered}
+use Rattle.replay.specs.Layout.{base, entered, Enters}
 use Rattle.replay.specs.Stack.{chosen}
-use Rattle.replay.specs.Turns.{termAt, positionAt, Framed, Sound, stateOf, Room, SearchSays, SearchContract}
-use Rattle.replay.specs.Endings.{restored, FoundWithin, endedAs, foundWords, choicesAfter, EndContract, AnswerContract}
+use Rattle.replay.specs.Turns.{termAt, positionAt, Framed, Sound, Held, MemoryOf, stateOf, Room, SearchSays, SearchContract}
+use Rattle.replay.specs.Endings.{SetsUp, restored, FoundWithin, endedAs, foundWords, choicesAfter, EndContract, AnswerContract}
 use Rattle.replay.proofs.ReadingLaw.{is-term}
 use Rattle.replay.proofs.StackLaw as Stack
 use Rattle.replay.proofs.StackLaw.{chosen-long}
-use Rattle.replay.proofs.LayoutLaw.{frame-before, drop-later, entered-long, entered-behind}
-use Rattle.replay.proofs.FrameLaw.{in-top, in-position, in-sound}
+use Rattle.replay.proofs.RecallLaw.{recalls-start}
+use Rattle.replay.proofs.LayoutLaw.{frame-before, drop-later, empty-length, empty-spare, enters}
+use Rattle.replay.proofs.FrameLaw.{in-top, entered-held, in-sound}
 
 -- reproduced: the last configuration's words in out
 written : (out cs : List ℤ) (ns : List ℕ) (g : Term) → encode (single g) ≡ cs → replayOut (gives (reproduced ns g)) out ≡ cs ++ drop (length cs) out
@@ -83,105 +84,111 @@ module _ (ws : List ℤ) (index : List ℕ) (rules room : ℕ) (cs : List ℤ) (
   abbrev last : ℕ
   last = base room (length log)
 
-  work₁ : List ℤ
-  work₁ = paste work last (take room out) room
-
   kept-long : length (take room out) ≡ room
   kept-long = length-take-le room out (rm .out-fits)
 
-  long₁ : length work₁ ≡ length work
-  unfolding work₁
-  long₁ = length-paste work last (take room out) room (omega (arith, rm .work-fits)) (omega (arith, kept-long))
+  module _ (opened : List ℤ) (up : SetsUp room (length log) cs out work opened) where
+    abbrev work₁ : List ℤ
+    work₁ = up .cleared
 
-  first : base room 0 ≡ 0
-  first = zero-mul (room + 2)
+    long₁ : length work₁ ≡ length work
+    long₁ = up .forgets .wide ∙ length-paste work last (take room out) room (omega (arith, rm .work-fits)) (omega (arith, kept-long))
 
-  one-frame : base room 0 + (room + 2) ≤ last
-  one-frame = frame-before room 0 (length log) some
+    one-frame : base room 0 + (room + 2) ≤ last
+    one-frame = frame-before room 0 (length log) some
 
-  fits₁ : base room 0 + (room + 2) ≤ length work₁
-  fits₁ = omega (arith, one-frame, long₁, rm .work-fits)
+    fits₁ : base room 0 + (room + 2) ≤ length work₁
+    fits₁ = omega (arith, one-frame, long₁, rm .work-fits)
 
-  none-below : (i : ℕ) → i < 0 → Framed rules room work₁ (base room i)
-  none-below i h = absurd (let f : ⊥ = omega arith in f)
+    none-below : (i : ℕ) → i < 0 → Framed rules room work₁ (base room i)
+    none-below i h = absurd (let f : ⊥ = omega arith in f)
 
-  abbrev pub opened : List ℤ
-  opened = entered room (paste work (base room (length log)) (take room out) room) 0 cs
+    ent : Enters room work₁ opened (base room 0) cs
+    ent =
+        let is : entered room work₁ (base room 0) cs ≡ opened = ap (λ (at : ℕ). entered room work₁ at cs) (zero-mul (room + 2)) ∙ sym (up .is) in
+        subst (λ (w : List ℤ). Enters room work₁ w (base room 0) cs) is (enters room work₁ (base room 0) cs fits₁ small)
 
-  opened-is : entered room work₁ (base room 0) cs ≡ opened
-  unfolding work₁
-  opened-is = ap (λ (at : ℕ). entered room work₁ at cs) first
+    opened-long : length opened ≡ length work
+    opened-long = ent .wide ∙ long₁
 
-  opened-long : length opened ≡ length work
-  opened-long = ap length (sym opened-is) ∙ entered-long room work₁ (base room 0) cs fits₁ small ∙ long₁
+    pub opened-room : Room ws index rules room log out opened
+    opened-room = record { indexed = rm .indexed; rules-are = rm .rules-are; few = rm .few; narrow = rm .narrow; out-fits = rm .out-fits; work-fits = omega (arith, rm .work-fits, opened-long) }
 
-  pub opened-room : Room ws index rules room log out opened
-  opened-room = record { indexed = rm .indexed; rules-are = rm .rules-are; few = rm .few; narrow = rm .narrow; out-fits = rm .out-fits; work-fits = omega (arith, rm .work-fits, opened-long) }
+    pub opened-sound : Sound rules room (length log) opened 0
+    opened-sound =
+        in-sound rules room (length log) work₁ opened 0 cs small ent none-below acc (λ i h. absurd (let f : ⊥ = omega arith in f))
+        (λ i h n. empty-spare room work₁ (base room i) (up .forgets .empty i h))
 
-  pub opened-sound : Sound rules room opened 0
-  opened-sound = subst (λ (w : List ℤ). Sound rules room w 0) opened-is (in-sound rules room work₁ 0 cs fits₁ small none-below acc (λ i h. absurd (let f : ⊥ = omega arith in f)))
+    pub opened-memory : MemoryOf t room log opened false 0
+    opened-memory =
+        recalls-start nodeCount (outLimit room) (next t) (order t) log (Held room (length log) opened 0) (termAt room opened) (positionAt room opened)
+        (λ i u h. none-held i u (in-held-after i u h)) (ent .position) false
+      where
+        in-held-after : (i : ℕ) (u : Term) → Held room (length log) opened 0 i u → Held room (length log) work₁ 0 i u
+        in-held-after i u h = entered-held rules room (length log) work₁ opened 0 cs small ent none-below i u (empty-spare room work₁ (base room i) (up .forgets .empty i (h .1))) h
 
-  opened-state : stateOf t room log opened false 0 ≡ replay t (outLimit room) log (termOf cs)
-  unfolding stateOf
-  opened-state =
-      Stack.start nodeCount (outLimit room) (next t) (order t) log (termAt room opened) (positionAt room opened) (termOf cs) some
-      (subst (λ (w : List ℤ). termAt room w 0 ≡ termOf cs) opened-is (in-top rules room work₁ 0 cs fits₁ small none-below))
-      (subst (λ (w : List ℤ). positionAt room w 0 ≡ 0) opened-is (in-position rules room work₁ 0 cs fits₁ small none-below))
-      ∙ sym (replay-is t (outLimit room) log (termOf cs))
+        none-held : (i : ℕ) (u : Term) → Held room (length log) work₁ 0 i u → ⊥
+        none-held i u h = let e = empty-length room work₁ (base room i) (up .forgets .empty i (h .1)) in let k = h .2 in omega arith
 
-  saved : drop last opened ≡ take room out ++ drop (last + room) work
-  unfolding work₁
-  saved =
-      ap (drop last) (sym opened-is)
-      ∙ entered-behind room work₁ (base room 0) cs fits₁ small last one-frame
-      ∙ ap (drop last) (append-assoc (take last work) (take room (take room out)) (drop (last + room) work))
-      ∙ drop-at (take last work) (take room (take room out) ++ drop (last + room) work) last (length-take-le last work (omega (arith, rm .work-fits)))
-      ∙ ap (λ (a : List ℤ). a ++ drop (last + room) work) (ap (λ (m : ℕ). take m (take room out)) (sym kept-long) ∙ take-length (take room out))
+    opened-state : stateOf t room log opened false 0 ≡ replay t (outLimit room) log (termOf cs)
+    unfolding stateOf
+    opened-state =
+        Stack.start nodeCount (outLimit room) (next t) (order t) log (termAt room opened) (positionAt room opened) (termOf cs) some
+        (in-top rules room (length log) work₁ opened 0 cs small ent none-below) (ent .position)
+        ∙ sym (replay-is t (outLimit room) log (termOf cs))
 
-  -- ---- the search has ended
-  module _ (f : Found) (out′ work′ : List ℤ) (found : SearchContract ws rules room log out opened out′ work′ f) where
-    saved′ : drop last work′ ≡ take room out ++ drop (last + room) work
-    saved′ = found .kept .work-kept ∙ saved
+    saved : drop last opened ≡ take room out ++ drop (last + room) work
+    saved =
+        drop-later (base room 0 + (room + 2)) last opened work₁ (ent .behind) one-frame
+        ∙ up .forgets .behind
+        ∙ ap (drop last) (append-assoc (take last work) (take room (take room out)) (drop (last + room) work))
+        ∙ drop-at (take last work) (take room (take room out) ++ drop (last + room) work) last (length-take-le last work (omega (arith, rm .work-fits)))
+        ∙ ap (λ (a : List ℤ). a ++ drop (last + room) work) (ap (λ (m : ℕ). take m (take room out)) (sym kept-long) ∙ take-length (take room out))
 
-    within : (x : Found) → SearchSays t rules room log opened out′ work′ x → FoundWithin x rules (length log) room work′
-    within (Path k) s = (s .0 .fits, s .0 .begun)
-    within Over s = tt
-    within Nothing s = tt
+    -- ---- the search has ended
+    module _ (f : Found) (out′ work′ : List ℤ) (found : SearchContract ws rules room log out opened out′ work′ f) where
+      saved′ : drop last work′ ≡ take room out ++ drop (last + room) work
+      saved′ = found .kept .work-kept ∙ saved
 
-    pub end-within : FoundWithin f (length (order t)) (length log) room work′
-    end-within = rw (← rm .rules-are) (within f (found .says))
+      within : (x : Found) → SearchSays t rules room log opened out′ work′ x → FoundWithin x rules (length log) room work′
+      within (Path k) s = (s .0 .fits, s .0 .begun)
+      within Over s = tt
+      within Nothing s = tt
 
-    pub end-room : (base room (length log) + (room + 2) ≤ length work′) × (room ≤ length out′)
-    end-room = (omega (arith, rm .work-fits, opened-long, found .kept .long), omega (arith, rm .out-fits, found .kept .wide))
+      pub end-within : FoundWithin f (length (order t)) (length log) room work′
+      end-within = rw (← rm .rules-are) (within f (found .says))
 
-    work-same : writeZeros (last + (room + 2)) work′ ≡ writeZeros (last + (room + 2)) work
-    work-same =
-        let q : drop (last + room) work′ ≡ drop (last + room) work = sym (drop-drop room last work′) ∙ ap (drop room) saved′ ∙ drop-at (take room out) (drop (last + room) work) room kept-long in
-        zeros-same (last + (room + 2)) work work′ (drop-later (last + room) (last + (room + 2)) work′ work q (omega arith))
+      pub end-room : (base room (length log) + (room + 2) ≤ length work′) × (room ≤ length out′)
+      end-room = (omega (arith, rm .work-fits, opened-long, found .kept .long), omega (arith, rm .out-fits, found .kept .wide))
 
-    restored-is : (k : ℕ) → k ≤ room → restored room k last out′ work′ ≡ take k out′ ++ drop k out
-    restored-is k q = back room k last out out′ work′ (drop (last + room) work) q (rm .out-fits) saved′ (found .kept .out-kept)
+      work-same : writeZeros (last + (room + 2)) work′ ≡ writeZeros (last + (room + 2)) work
+      work-same =
+          let q : drop (last + room) work′ ≡ drop (last + room) work = sym (drop-drop room last work′) ∙ ap (drop room) saved′ ∙ drop-at (take room out) (drop (last + room) work) room kept-long in
+          zeros-same (last + (room + 2)) work work′ (drop-later (last + room) (last + (room + 2)) work′ work q (omega arith))
 
-    module _ (choices : List ℕ) where
-      pub record Ends (x : Found) (y : ReplayResult Term) : Type 0 where
-        pub answer : endedAs x ≡ replayAnswer (gives y)
-        pub leaves : restored room (foundWords x) last out′ work′ ≡ replayOut (gives y) out
-        pub leaves-choices : choicesAfter x (order t) (length log) room work′ choices ≡ replayChoices (gives y) choices
+      restored-is : (k : ℕ) → k ≤ room → restored room k last out′ work′ ≡ take k out′ ++ drop k out
+      restored-is k q = back room k last out out′ work′ (drop (last + room) work) q (rm .out-fits) saved′ (found .kept .out-kept)
 
-      ends : (x : Found) → SearchSays t rules room log opened out′ work′ x → Ends x (stateOf t room log opened false 0)
-      unfolding replayAnswer
-      ends (Path k) s =
-          let z : length (take k out′) ≡ k = length-take-le k out′ (omega (arith, s .0 .fits, end-room .1)) in
-          let ns : List ℕ = chosen (order t) (positionAt room work′) (length log) in
-          subst⁻¹ (Ends (Path k)) (s .1) (record {
-            answer = refl;
-            leaves = restored-is k (s .0 .fits) ∙ ap (λ (m : ℕ). take k out′ ++ drop m out) (sym z) ∙ sym (written out (take k out′) ns (termOf (take k out′)) (is-term (take k out′) (s .0 .accepted) .words));
-            leaves-choices = ap (λ (m : ℕ). ns ++ drop m choices) (sym (chosen-long (order t) (positionAt room work′) (length log))) ∙ sym (replay-choices-reproduced choices ns (termOf (take k out′)));
-          })
-      ends Over s = subst⁻¹ (Ends Over) s (record { answer = refl; leaves = restored-is 0 (omega arith) ∙ sym (replay-out-exceeded out); leaves-choices = sym (replay-choices-exceeded choices) })
-      ends Nothing s = subst⁻¹ (Ends Nothing) s (record { answer = refl; leaves = restored-is 0 (omega arith) ∙ sym (replay-out-not out); leaves-choices = sym (replay-choices-not choices) })
+      module _ (choices : List ℕ) where
+        pub record Ends (x : Found) (y : ReplayResult Term) : Type 0 where
+          pub answer : endedAs x ≡ replayAnswer (gives y)
+          pub leaves : restored room (foundWords x) last out′ work′ ≡ replayOut (gives y) out
+          pub leaves-choices : choicesAfter x (order t) (length log) room work′ choices ≡ replayChoices (gives y) choices
 
-      pub answered : (out″ : List ℤ) (choices″ : List ℕ) (work″ : List ℤ) (r : ReplayAnswer) → EndContract ws f (length log) room out′ choices work′ out″ choices″ work″ r → AnswerContract ws cs log room out choices work out″ choices″ work″ r
-      answered out″ choices″ work″ r e =
-          let z : Ends f (replay t (outLimit room) log (termOf cs)) = subst (Ends f) opened-state (ends f (found .says)) in
-          record { answer = e .answer ∙ z .answer; leaves = e .leaves ∙ z .leaves; leaves-choices = e .leaves-choices ∙ z .leaves-choices; leaves-work = e .leaves-work ∙ work-same }
+        ends : (x : Found) → SearchSays t rules room log opened out′ work′ x → Ends x (stateOf t room log opened false 0)
+        unfolding replayAnswer
+        ends (Path k) s =
+            let z : length (take k out′) ≡ k = length-take-le k out′ (omega (arith, s .0 .fits, end-room .1)) in
+            let ns : List ℕ = chosen (order t) (positionAt room work′) (length log) in
+            subst⁻¹ (Ends (Path k)) (s .1) (record {
+              answer = refl;
+              leaves = restored-is k (s .0 .fits) ∙ ap (λ (m : ℕ). take k out′ ++ drop m out) (sym z) ∙ sym (written out (take k out′) ns (termOf (take k out′)) (is-term (take k out′) (s .0 .accepted) .words));
+              leaves-choices = ap (λ (m : ℕ). ns ++ drop m choices) (sym (chosen-long (order t) (positionAt room work′) (length log))) ∙ sym (replay-choices-reproduced choices ns (termOf (take k out′)));
+            })
+        ends Over s = subst⁻¹ (Ends Over) s (record { answer = refl; leaves = restored-is 0 (omega arith) ∙ sym (replay-out-exceeded out); leaves-choices = sym (replay-choices-exceeded choices) })
+        ends Nothing s = subst⁻¹ (Ends Nothing) s (record { answer = refl; leaves = restored-is 0 (omega arith) ∙ sym (replay-out-not out); leaves-choices = sym (replay-choices-not choices) })
+
+        pub answered : (out″ : List ℤ) (choices″ : List ℕ) (work″ : List ℤ) (r : ReplayAnswer) → EndContract ws f (length log) room out′ choices work′ out″ choices″ work″ r → AnswerContract ws cs log room out choices work out″ choices″ work″ r
+        answered out″ choices″ work″ r e =
+            let z : Ends f (replay t (outLimit room) log (termOf cs)) = subst (Ends f) opened-state (ends f (found .says)) in
+            record { answer = e .answer ∙ z .answer; leaves = e .leaves ∙ z .leaves; leaves-choices = e .leaves-choices ∙ z .leaves-choices; leaves-work = e .leaves-work ∙ work-same }

@@ -1,16 +1,18 @@
 -- Frames that the search may stand at, after a store: those below it stay, the one that goes on, the one that is entered.
-use mathlib.Core.Path.{_≡_, ap, subst, subst⁻¹}
+use mathlib.Core.Path.{_≡_, sym, ap, _∙_, subst, subst⁻¹}
+use mathlib.Core.Logic.{_⊎_, inl, inr}
 use mathlib.Core.List.{List}
-use Prim.Native.Nat.{ℕ, _+_, _≤_, _<_}
+use Prim.Native.Nat.{ℕ, suc, _+_, _≤_, _<_}
 use native.Mathlib.Omega.{arith}
 use native.Mathlib.Decide.{decLt}
-use lib.IntN.{ℤ}
-use lib.ListN.{length, take}
+use lib.IntN.{ℤ, pos}
+use lib.ListN.{length, getD, take}
 use Rattle.minuska.specs.Computed.Place.{Accepted}
 use Rattle.replay.specs.Reading.{termOf}
-use Rattle.replay.specs.Layout.{base, positionOf, wordsOf, advanced, entered}
-use Rattle.replay.specs.Turns.{termAt, positionAt, Framed, Sound}
-use Rattle.replay.proofs.LayoutLaw.{frame-before, position-same, length-same, counted-same, words-same, advanced-below, advanced-position, advanced-counted, entered-below, entered-counted, entered-position, entered-length, entered-words}
+use Rattle.minuska.specs.Term.{Term}
+use Rattle.replay.specs.Layout.{base, lengthOf, positionOf, wordsOf, Spare, advanced, Enters}
+use Rattle.replay.specs.Turns.{termAt, positionAt, Framed, Sound, Held}
+use Rattle.replay.proofs.LayoutLaw.{frame-before, position-same, length-same, counted-same, words-same, word-below, word-behind, drop-later, still-length, still-words, still-spare, advanced-long, advanced-below, advanced-other, advanced-position, advanced-counted}
 
 -- ---- below what was written
 module _ (rules room : ℕ) (w w′ : List ℤ) (lo : ℕ) (same : take lo w′ ≡ take lo w) (at : ℕ) (under : at + (room + 2) ≤ lo) (f : Framed rules room w at) where
@@ -29,8 +31,18 @@ module _ (rules room : ℕ) (w w′ : List ℤ) (lo : ℕ) (same : take lo w′ 
         position = subst⁻¹ (λ (k : ℕ). k ≤ rules) position-below (f .position);
       }
 
+-- ---- what is held for a depth, where its frame stands as it was
+held-still : (room m : ℕ) (w w′ : List ℤ) (d e i : ℕ) (u : Term) → d ≤ e → length w′ ≡ length w → ((j : ℕ) → base room i ≤ j → j < base room i + (room + 1) → getD w′ j (pos 0) ≡ getD w j (pos 0)) → Spare room w (base room i)
+    → Held room m w′ e i u → Held room m w d i u
+held-still room m w w′ d e i u le long same s h = (
+  omega (arith, h .0),
+  h .1,
+  subst (λ (k : ℕ). 0 < k) (still-length room w w′ (base room i) long same) (h .2),
+  ap termOf (sym (still-words room w w′ (base room i) long same (s .long))) ∙ h .3,
+)
+
 -- ---- the frame at depth d goes on to a position
-module _ (rules room : ℕ) (w : List ℤ) (d p : ℕ) (fits : base room d + (room + 2) ≤ length w) (s : Sound rules room w d) where
+module _ (rules room m : ℕ) (w : List ℤ) (d p : ℕ) (fits : base room d + (room + 2) ≤ length w) (s : Sound rules room m w d) where
   w₁ : List ℤ
   w₁ = advanced room w (base room d) p
 
@@ -40,6 +52,22 @@ module _ (rules room : ℕ) (w : List ℤ) (d p : ℕ) (fits : base room d + (ro
   same₁ : take lo w₁ ≡ take lo w
   unfolding w₁
   same₁ = advanced-below room w (base room d) p fits
+
+  long₁ : length w₁ ≡ length w
+  unfolding w₁
+  long₁ = advanced-long room w (base room d) p fits
+
+  -- no frame has another word, but its next position
+  frame₁ : (i j : ℕ) → base room i ≤ j → j < base room i + (room + 1) → getD w₁ j (pos 0) ≡ getD w j (pos 0)
+  unfolding w₁
+  frame₁ i j a b = advanced-other room w (base room d) p fits j (λ e. apart e (decLt i d) (decLt d i))
+    where
+      apart : j ≡ base room d + room + 1 → Dec (i < d) → Dec (d < i) → ⊥
+      apart e (yes h) k = omega (arith, frame-before room i d h)
+      apart e (no h) (yes k) = omega (arith, frame-before room d i k)
+      apart e (no h) (no k) =
+          let z : i ≡ d = omega arith in
+          omega (arith, ap (base room) z)
 
   under₁ : (i : ℕ) → i < d → base room i + (room + 2) ≤ lo
   under₁ i h = omega (arith, frame-before room i d h)
@@ -62,9 +90,13 @@ module _ (rules room : ℕ) (w : List ℤ) (d p : ℕ) (fits : base room d + (ro
   pub on-position : positionAt room (advanced room w (base room d) p) d ≡ p
   on-position = advanced-position room w (base room d) p fits
 
-  pub on-sound : p ≤ rules → Sound rules room (advanced room w (base room d) p) d
+  pub on-held : (i : ℕ) (u : Term) → Held room m (advanced room w (base room d) p) d i u → Held room m w d i u
   unfolding w₁
-  on-sound h = record { frames = λ i k. at i k (decLt i d); begun = λ i k. subst⁻¹ (λ (x : ℕ). 0 < x) (on-positions i k) (s .begun i k) }
+  on-held i u h = held-still room m w w₁ d d i u (omega arith) long₁ (frame₁ i) (s .spare i (h .1)) h
+
+  pub on-sound : p ≤ rules → Sound rules room m (advanced room w (base room d) p) d
+  unfolding w₁
+  on-sound h = record { frames = λ i k. at i k (decLt i d); begun = λ i k. subst⁻¹ (λ (x : ℕ). 0 < x) (on-positions i k) (s .begun i k); spare = λ i k. still-spare room w w₁ (base room i) long₁ (frame₁ i) (s .spare i k) }
     where
       at : (i : ℕ) → i ≤ d → Dec (i < d) → Framed rules room w₁ (base room i)
       at i k (yes q) = framed-below rules room w w₁ lo same₁ (base room i) (under₁ i q) (s .frames i k)
@@ -80,40 +112,65 @@ module _ (rules room : ℕ) (w : List ℤ) (d p : ℕ) (fits : base room d + (ro
           })
 
 -- ---- the frame at depth j is entered, those below it stand
-module _ (rules room : ℕ) (w : List ℤ) (j : ℕ) (c : List ℤ) (fits : base room j + (room + 2) ≤ length w) (small : length c ≤ room) (fs : (i : ℕ) → i < j → Framed rules room w (base room i)) where
-  w₂ : List ℤ
-  w₂ = entered room w (base room j) c
+module _ (rules room m : ℕ) (w w′ : List ℤ) (j : ℕ) (c : List ℤ) (small : length c ≤ room) (ent : Enters room w w′ (base room j) c) (fs : (i : ℕ) → i < j → Framed rules room w (base room i)) where
+  pub in-terms : (i : ℕ) → i < j → termAt room w′ i ≡ termAt room w i
+  in-terms i h = ap termOf (words-below rules room w w′ (base room j) (ent .below) (base room i) (frame-before room i j h) (fs i h))
 
-  same₂ : take (base room j) w₂ ≡ take (base room j) w
-  unfolding w₂
-  same₂ = entered-below room w (base room j) c fits small
+  pub in-positions : (i : ℕ) → i < j → positionAt room w′ i ≡ positionAt room w i
+  in-positions i h = position-same room w w′ (base room j) (ent .below) (base room i) (frame-before room i j h)
 
-  pub in-terms : (i : ℕ) → i < j → termAt room (entered room w (base room j) c) i ≡ termAt room w i
-  unfolding w₂
-  in-terms i h = ap termOf (words-below rules room w w₂ (base room j) same₂ (base room i) (frame-before room i j h) (fs i h))
+  pub in-top : termAt room w′ j ≡ termOf c
+  in-top = ap termOf (ent .words)
 
-  pub in-positions : (i : ℕ) → i < j → positionAt room (entered room w (base room j) c) i ≡ positionAt room w i
-  unfolding w₂
-  in-positions i h = position-same room w w₂ (base room j) same₂ (base room i) (frame-before room i j h)
-
-  pub in-top : termAt room (entered room w (base room j) c) j ≡ termOf c
-  in-top = ap termOf (entered-words room w (base room j) c fits small)
-
-  pub in-position : positionAt room (entered room w (base room j) c) j ≡ 0
-  in-position = entered-position room w (base room j) c fits small
-
-  pub in-sound : Accepted c → ((i : ℕ) → i < j → 0 < positionAt room w i) → Sound rules room (entered room w (base room j) c) j
-  unfolding w₂
-  in-sound acc beg = record { frames = λ i k. at i k (decLt i j); begun = λ i k. subst⁻¹ (λ (x : ℕ). 0 < x) (in-positions i k) (beg i k) }
+  -- the other frames
+  frame₂ : (i : ℕ) → (i ≡ j → ⊥) → (k : ℕ) → base room i ≤ k → k < base room i + (room + 1) → getD w′ k (pos 0) ≡ getD w k (pos 0)
+  frame₂ i n k a b = side (decLt i j) (decLt j i)
     where
-      at : (i : ℕ) → i ≤ j → Dec (i < j) → Framed rules room w₂ (base room i)
-      at i k (yes q) = framed-below rules room w w₂ (base room j) same₂ (base room i) (frame-before room i j q) (fs i q)
+      side : Dec (i < j) → Dec (j < i) → getD w′ k (pos 0) ≡ getD w k (pos 0)
+      side (yes h) x = word-below w w′ (base room j) (ent .below) k (omega (arith, frame-before room i j h))
+      side (no h) (yes x) = word-behind w w′ (base room j + (room + 2)) (ent .behind) k (omega (arith, frame-before room j i x))
+      side (no h) (no x) = absurd (n (omega arith))
+
+  pub entered-held : (i : ℕ) (u : Term) → Spare room w (base room i) → Held room m w′ j i u → Held room m w j i u
+  entered-held i u sp h = held-still room m w w′ j j i u (omega arith) (ent .wide) (frame₂ i (λ e. let f : ⊥ = omega (arith, h .0) in f)) sp h
+
+  pub in-held : ((i : ℕ) → i < m → Spare room w (base room i)) → (d i : ℕ) (u : Term) → d < j → Held room m w′ j i u → Held room m w d i u
+  in-held sp d i u l h = let k = entered-held i u (sp i (h .1)) h in (omega (arith, k .0), k .1, k .2, k .3)
+
+  pub in-sound : Accepted c → ((i : ℕ) → i < j → 0 < positionAt room w i) → ((i : ℕ) → i < m → (i ≡ j → ⊥) → Spare room w (base room i)) → Sound rules room m w′ j
+  in-sound acc beg sp = record { frames = λ i k. at i k (decLt i j); begun = λ i k. subst⁻¹ (λ (x : ℕ). 0 < x) (in-positions i k) (beg i k); spare = λ i k. spares i k (decLt i j) (decLt j i) }
+    where
+      entered-frame : Framed rules room w′ (base room j)
+      entered-frame =
+          record {
+            counted = ent .counted;
+            long = subst⁻¹ (λ (x : ℕ). x ≤ room) (ent .long) small;
+            accepted = subst⁻¹ Accepted (ent .words) acc;
+            position = subst⁻¹ (λ (x : ℕ). x ≤ rules) (ent .position) (omega arith);
+          }
+
+      at : (i : ℕ) → i ≤ j → Dec (i < j) → Framed rules room w′ (base room i)
+      at i k (yes q) = framed-below rules room w w′ (base room j) (ent .below) (base room i) (frame-before room i j q) (fs i q)
       at i k (no q) =
           let e : j ≡ i = omega arith in
-          subst (λ (x : ℕ). Framed rules room w₂ (base room x)) e
-          (record {
-            counted = entered-counted room w (base room j) c fits small;
-            long = subst⁻¹ (λ (x : ℕ). x ≤ room) (entered-length room w (base room j) c fits small) small;
-            accepted = subst⁻¹ Accepted (entered-words room w (base room j) c fits small) acc;
-            position = subst⁻¹ (λ (x : ℕ). x ≤ rules) in-position (omega arith);
-          })
+          subst (λ (x : ℕ). Framed rules room w′ (base room x)) e entered-frame
+
+      other : (i : ℕ) → i < m → (i ≡ j → ⊥) → Spare room w′ (base room i)
+      other i k n = still-spare room w w′ (base room i) (ent .wide) (frame₂ i n) (sp i k n)
+
+      spares : (i : ℕ) → i < m → Dec (i < j) → Dec (j < i) → Spare room w′ (base room i)
+      spares i k (yes q) x = other i k (λ e. let f : ⊥ = omega arith in f)
+      spares i k (no q) (yes x) = other i k (λ e. let f : ⊥ = omega arith in f)
+      spares i k (no q) (no x) =
+          let e : j ≡ i = omega arith in
+          subst (λ (y : ℕ). Spare room w′ (base room y)) e (record { words = entered-frame .counted .words; long = entered-frame .long })
+
+-- back from depth d: its configuration is held
+pub back-held : (room m : ℕ) (w : List ℤ) (d i : ℕ) (u : Term) → Held room m w d i u → Held room m w (suc d) i u ⊎ ((suc d ≡ i) × (termAt room w (suc d) ≡ u))
+back-held room m w d i u h = at (decLt (suc d) i)
+  where
+    at : Dec (suc d < i) → Held room m w (suc d) i u ⊎ ((suc d ≡ i) × (termAt room w (suc d) ≡ u))
+    at (yes k) = inl (k, h .1, h .2, h .3)
+    at (no k) =
+        let e : suc d ≡ i = omega (arith, h .0) in
+        inr (e, subst⁻¹ (λ (x : ℕ). termAt room w x ≡ u) e (h .3))

@@ -1,5 +1,5 @@
 -- The frames: what a store in one leaves in the others. What lies below a place is kept if `take` of it is, what lies behind if `drop` is.
-use mathlib.Core.Path.{_≡_, refl, ap, sym, _∙_, subst⁻¹}
+use mathlib.Core.Path.{_≡_, refl, ap, ap₂, sym, _∙_, subst, subst⁻¹}
 use mathlib.Core.List.{List, [], _∷_, _++_, append-assoc}
 use Prim.Native.Nat.{ℕ, zero, suc, _+_, _-_, _≤_, _<_}
 use native.Mathlib.Nat.{mul-le-mul-right, suc-mul}
@@ -7,9 +7,9 @@ use native.Mathlib.Omega.{arith}
 use lib.Dec.{T}
 use lib.IntN.{ℤ, pos}
 use lib.ListN.{length, getD, take, drop, set, length-set}
-use lib.Seq.{paste, length-paste, getD-take, getD-set-other, getD-set-same, length-take-le, take-length, take-at, drop-at, take-take, drop-drop, drop-set-lt, take-set-le, drop-paste}
+use lib.Seq.{paste, length-paste, getD-take, getD-drop, getD-set-other, getD-set-same, length-take-le, take-length, take-at, drop-at, take-take, drop-drop, drop-set-lt, take-set-le, drop-paste}
 use lib.Signed.{nonNeg}
-use Rattle.replay.specs.Layout.{natOf, base, lengthOf, positionOf, wordsOf, Counted, advanced, entered}
+use Rattle.replay.specs.Layout.{natOf, base, lengthOf, positionOf, wordsOf, Counted, Spare, advanced, entered, Enters, Known}
 
 -- a frame ends before a later one begins
 pub frame-before : (room i j : ℕ) → i < j → base room i + (room + 2) ≤ base room j
@@ -27,10 +27,64 @@ drop-later a m x y e h =
     let z : a + (m - a) ≡ m = omega arith in
     ap (λ (k : ℕ). drop k x) (sym z) ∙ sym (drop-drop (m - a) a x) ∙ ap (drop (m - a)) e ∙ drop-drop (m - a) a y ∙ ap (λ (k : ℕ). drop k y) z
 
+-- words that are the same one by one
+front-same : (n : ℕ) (w w′ : List ℤ) → length w′ ≡ length w → ((j : ℕ) → j < n → getD w′ j (pos 0) ≡ getD w j (pos 0)) → take n w′ ≡ take n w
+front-same zero w w′ e f = refl
+front-same (suc n) [] [] e f = refl
+front-same (suc n) [] (y ∷ w′) e f = absurd (let g : ⊥ = omega arith in g)
+front-same (suc n) (x ∷ w) [] e f = absurd (let g : ⊥ = omega arith in g)
+front-same (suc n) (x ∷ w) (y ∷ w′) e f = ap₂ (λ (z : ℤ) (l : List ℤ). z ∷ l) (f 0 (omega arith)) (front-same n w w′ (omega arith) (λ j h. f (suc j) (omega arith)))
+
+pub part-same : (a n : ℕ) (w w′ : List ℤ) → length w′ ≡ length w → ((j : ℕ) → a ≤ j → j < a + n → getD w′ j (pos 0) ≡ getD w j (pos 0)) → take n (drop a w′) ≡ take n (drop a w)
+part-same zero n w w′ e f = front-same n w w′ e (λ j h. f j (omega arith) (omega arith))
+part-same (suc a) n [] [] e f = refl
+part-same (suc a) n [] (y ∷ w′) e f = absurd (let g : ⊥ = omega arith in g)
+part-same (suc a) n (x ∷ w) [] e f = absurd (let g : ⊥ = omega arith in g)
+part-same (suc a) n (x ∷ w) (y ∷ w′) e f = part-same a n w w′ (omega arith) (λ j h k. f (suc j) (omega arith) (omega arith))
+
+pub word-below : (w w′ : List ℤ) (lo : ℕ) → take lo w′ ≡ take lo w → (j : ℕ) → j < lo → getD w′ j (pos 0) ≡ getD w j (pos 0)
+word-below w w′ lo same j h = sym (getD-take lo w′ j (pos 0) h) ∙ ap (λ (l : List ℤ). getD l j (pos 0)) same ∙ getD-take lo w j (pos 0) h
+
+pub word-behind : (w w′ : List ℤ) (m : ℕ) → drop m w′ ≡ drop m w → (j : ℕ) → m ≤ j → getD w′ j (pos 0) ≡ getD w j (pos 0)
+word-behind w w′ m same j h =
+    let e : m + (j - m) ≡ j = omega arith in
+    subst (λ (i : ℕ). getD w′ i (pos 0) ≡ getD w i (pos 0)) e (sym (getD-drop m w′ (j - m) (pos 0)) ∙ ap (λ (l : List ℤ). getD l (j - m) (pos 0)) same ∙ getD-drop m w (j - m) (pos 0))
+
+take-some : (n : ℕ) (l : List ℤ) → 0 < length (take n l) → 0 < n
+take-some zero l h = h
+take-some (suc n) l h = omega arith
+
+-- words that stand in a frame are a configuration's, not none
+pub known-own : (room : ℕ) (w : List ℤ) (at : ℕ) (c : List ℤ) → 0 < length c → wordsOf room w at ≡ c → Known room w at c
+unfolding wordsOf
+known-own room w at c h e = (take-some (lengthOf room w at) (drop at w) (subst⁻¹ (λ (l : List ℤ). 0 < length l) e h), e)
+
+-- ---- a frame whose length is no configuration's
+module _ (room : ℕ) (w : List ℤ) (at : ℕ) (e : getD w (at + room) (pos 0) ≡ pos 0) where
+  pub empty-length : lengthOf room w at ≡ 0
+  unfolding lengthOf
+  empty-length = ap natOf e
+
+  pub empty-spare : Spare room w at
+  empty-spare = record { words = subst⁻¹ (λ (z : ℤ). T (nonNeg z)) e tt; long = omega (arith, empty-length) }
+
+-- ---- a frame in which nothing was written but the next position
+module _ (room : ℕ) (w w′ : List ℤ) (at : ℕ) (long : length w′ ≡ length w) (same : (j : ℕ) → at ≤ j → j < at + (room + 1) → getD w′ j (pos 0) ≡ getD w j (pos 0)) where
+  pub still-length : lengthOf room w′ at ≡ lengthOf room w at
+  unfolding lengthOf
+  still-length = ap natOf (same (at + room) (omega arith) (omega arith))
+
+  pub still-words : lengthOf room w at ≤ room → wordsOf room w′ at ≡ wordsOf room w at
+  unfolding wordsOf
+  still-words k = ap (λ (m : ℕ). take m (drop at w′)) still-length ∙ part-same at (lengthOf room w at) w w′ long (λ j h l. same j h (omega arith))
+
+  pub still-spare : Spare room w at → Spare room w′ at
+  still-spare s = record { words = subst⁻¹ (λ (z : ℤ). T (nonNeg z)) (same (at + room) (omega arith) (omega arith)) (s .words); long = subst⁻¹ (λ (k : ℕ). k ≤ room) still-length (s .long) }
+
 -- ---- what stands below what was written
 module _ (room : ℕ) (w w′ : List ℤ) (lo : ℕ) (same : take lo w′ ≡ take lo w) (at : ℕ) where
   at-same : (j : ℕ) → j < lo → getD w′ j (pos 0) ≡ getD w j (pos 0)
-  at-same j h = sym (getD-take lo w′ j (pos 0) h) ∙ ap (λ (l : List ℤ). getD l j (pos 0)) same ∙ getD-take lo w j (pos 0) h
+  at-same j h = word-below w w′ lo same j h
 
   pub position-same : at + (room + 2) ≤ lo → positionOf room w′ at ≡ positionOf room w at
   unfolding positionOf
@@ -68,6 +122,10 @@ module _ (room : ℕ) (w : List ℤ) (at p : ℕ) (fits : at + (room + 2) ≤ le
   pub advanced-behind : (m : ℕ) → at + (room + 2) ≤ m → drop m (advanced room w at p) ≡ drop m w
   unfolding advanced
   advanced-behind m h = drop-set-lt m w (at + room + 1) (pos p) (omega arith)
+
+  pub advanced-other : (j : ℕ) → (j ≡ at + room + 1 → ⊥) → getD (advanced room w at p) j (pos 0) ≡ getD w j (pos 0)
+  unfolding advanced
+  advanced-other j h = getD-set-other w (at + room + 1) j (pos p) (pos 0) h
 
   pub advanced-position : positionOf room (advanced room w at p) at ≡ p
   unfolding advanced positionOf
@@ -156,3 +214,6 @@ module _ (room : ℕ) (w : List ℤ) (at : ℕ) (c : List ℤ) (fits : at + (roo
       ∙ ap (λ (l : List ℤ). take (length c) (drop at l)) pasted-is
       ∙ ap (take (length c)) (drop-at (take at w) (c ++ drop (at + length c) w) at (length-take-le at w (omega arith)))
       ∙ take-at c (drop (at + length c) w) (length c) refl
+
+  pub enters : Enters room w (entered room w at c) at c
+  enters = record { wide = entered-long; below = entered-below; behind = entered-behind (at + (room + 2)) (omega arith); counted = entered-counted; long = entered-length; words = entered-words; position = entered-position }

@@ -1,5 +1,6 @@
 pub mod ReadingLaw
 pub mod StackLaw
+pub mod RecallLaw
 pub mod LayoutLaw
 pub mod SeekLaw
 pub mod ToldLaw

@@ -14,7 +14,7 @@ use Rattle.minuska.specs.Computed.Replay.{orLater, prepend, tryAll, attempt, se
 use Rattle.replay.specs.Stack.{mark, chosen, rest, resume, state, below, turnsAt, turns, owed, left}
 
 module _ {A : Type 0} where
-  or-assoc : (x y z : ReplayResult A) → orLater (orLater x y) z ≡ orLater x (orLater y z)
+  pub or-assoc : (x y z : ReplayResult A) → orLater (orLater x y) z ≡ orLater x (orLater y z)
   or-assoc (reproduced p e) y z = refl
   or-assoc exceeded (reproduced p e) z = refl
   or-assoc exceeded exceeded (reproduced p e) = refl
@@ -28,7 +28,7 @@ module _ {A : Type 0} where
   prepend-exceeded n exceeded = refl
   prepend-exceeded n notReproduced = refl
 
-  mark-exceeded : (b : Bool) (x : ReplayResult A) → orLater (mark b) (orLater exceeded x) ≡ orLater (mark true) x
+  pub mark-exceeded : (b : Bool) (x : ReplayResult A) → orLater (mark b) (orLater exceeded x) ≡ orLater (mark true) x
   mark-exceeded true (reproduced p e) = refl
   mark-exceeded true exceeded = refl
   mark-exceeded true notReproduced = refl
@@ -38,7 +38,7 @@ module _ {A : Type 0} where
   mark-reproduced true p e = refl
   mark-reproduced false p e = refl
 
-  mark-not : (b : Bool) → orLater (mark b) notReproduced ≡ mark {A = A} b
+  pub mark-not : (b : Bool) → orLater (mark b) notReproduced ≡ mark {A = A} b
   mark-not true = refl
   mark-not false = refl
 
@@ -81,7 +81,7 @@ module _ {A : Type 0} (size : A → ℕ) (limit : ℕ) (next : ℕ → ℕ → A
   Left = left next rules log
 
   -- ---- the positions at one configuration
-  rest-step : (d : ℕ) (t : A) (p : ℕ) → p < length rules → Rest d t p ≡ orLater (try d t (getD rules p 0)) (Rest d t (suc p))
+  pub rest-step : (d : ℕ) (t : A) (p : ℕ) → p < length rules → Rest d t p ≡ orLater (try d t (getD rules p 0)) (Rest d t (suc p))
   unfolding rest
   rest-step d t p h = ap (tryAll (try d t)) (drop-cons rules p 0 h)
 
@@ -89,7 +89,7 @@ module _ {A : Type 0} (size : A → ℕ) (limit : ℕ) (next : ℕ → ℕ → A
   unfolding rest
   rest-end d t p h = ap (tryAll (try d t)) (drop-of-length-le rules h)
 
-  rest-all : (d : ℕ) (t : A) → d < length log → search size limit next rules (drop d log) t ≡ Rest d t 0
+  pub rest-all : (d : ℕ) (t : A) → d < length log → search size limit next rules (drop d log) t ≡ Rest d t 0
   unfolding rest
   rest-all d t h = ap (λ (l : List ℕ). search size limit next rules l t) (drop-cons log d 0 h)
 
@@ -136,7 +136,7 @@ module _ {A : Type 0} (size : A → ℕ) (limit : ℕ) (next : ℕ → ℕ → A
     exhausted p h f = skipped p (length rules) h (omega arith) f .0 ∙ rest-end d t (length rules) (omega arith)
 
   -- ---- the stack
-  resume-exceeded : (term : ℕ → A) (position : ℕ → ℕ) (d : ℕ) (x : ReplayResult A) → Resume term position d (orLater exceeded x) ≡ orLater exceeded (Resume term position d x)
+  pub resume-exceeded : (term : ℕ → A) (position : ℕ → ℕ) (d : ℕ) (x : ReplayResult A) → Resume term position d (orLater exceeded x) ≡ orLater exceeded (Resume term position d x)
   unfolding resume
   resume-exceeded term position zero x = refl
   resume-exceeded term position (suc d) x =
@@ -197,7 +197,7 @@ module _ {A : Type 0} (size : A → ℕ) (limit : ℕ) (next : ℕ → ℕ → A
       abbrev rule : ℕ
       rule = getD rules q 0
 
-      tried : (x : ReplayResult A) → try d (term d) rule ≡ x → Resume term position d (Rest d (term d) (position d)) ≡ Resume term′ position′ d (orLater x (Rest d (term′ d) (position′ d)))
+      pub tried : (x : ReplayResult A) → try d (term d) rule ≡ x → Resume term position d (Rest d (term d) (position d)) ≡ Resume term′ position′ d (orLater x (Rest d (term′ d) (position′ d)))
       tried x e =
           ap (Resume term position d) (tries .idle .0 ∙ rest-step d (term d) q (tries .there) ∙ ap₂ orLater e (sym (ap₂ (Rest d) (tries .top) (tries .on))))
           ∙ sym (resume-same d (tries .terms) (tries .positions) (orLater x (Rest d (term′ d) (position′ d))))
@@ -207,7 +207,7 @@ module _ {A : Type 0} (size : A → ℕ) (limit : ℕ) (next : ℕ → ℕ → A
       unfolding state
       turn-none b e = ap (orLater (mark b)) (tried notReproduced (ap (attempt size limit (go d) rule) e))
 
-      attempted : (u : A) (b : Bool) → next (getD log d 0) rule (term d) ≡ some u → leb (size u) limit ≡ b → try d (term d) rule ≡ elim b as (λ (y : Bool). ReplayResult A) [ true ↦ prepend rule (go d u) | false ↦ exceeded ]
+      pub attempted : (u : A) (b : Bool) → next (getD log d 0) rule (term d) ≡ some u → leb (size u) limit ≡ b → try d (term d) rule ≡ elim b as (λ (y : Bool). ReplayResult A) [ true ↦ prepend rule (go d u) | false ↦ exceeded ]
       attempted u b e g = ap (attempt size limit (go d) rule) e ∙ ap (λ (x : Bool). elim x as (λ (y : Bool). ReplayResult A) [ true ↦ prepend rule (go d u) | false ↦ exceeded ]) g
 
       -- its successor is above the limit

@@ -1,16 +1,17 @@
 -- One turn of the search: whatever the rule's answer, the search will say what it would have said.
 use mathlib.Core.Path.{_≡_, refl, sym, ap, ap₂, _∙_, subst, subst⁻¹}
-use mathlib.Core.Bool.{Bool, true, false, cond}
+use mathlib.Core.Bool.{Bool, true, false}
+use mathlib.Core.Logic.{inl, inr}
 use mathlib.Core.Option.{Option, none, some}
 use mathlib.Core.List.{List}
 use Prim.Native.Nat.{ℕ, suc, _+_, _*_, _≤_, _<_}
 use native.Mathlib.Numerals.{add-one}
 use native.Mathlib.Omega.{arith}
 use native.Mathlib.Decide.{decLt}
-use lib.Dec.{leb, ltb}
+use lib.Dec.{leb}
 use lib.IntN.{ℤ}
 use lib.ListN.{length, getD, take, drop}
-use borrow.Author.Tests.{leb-true, ltb-true, ltb-false}
+use borrow.Author.Tests.{leb-true}
 use Rattle.minuska.specs.Term.{Term, single, nodeCount}
 use Rattle.minuska.specs.Word.{encode}
 use Rattle.minuska.specs.Rule.{Table, IsTable, IsConfiguration}
@@ -21,19 +22,21 @@ use Rattle.minuska.specs.declared.StepAnswer.{StepAnswer}
 use Rattle.minuska.specs.declared.StepAnswer.the-variants as S
 use Rattle.minuska.proofs.KeepLaw.{keeps-configuration}
 use Rattle.minuska.proofs.ReplayLaw.{next-iff}
+use Rattle.replay.specs.declared.search.Turned.{Turned}
 use Rattle.replay.specs.declared.search.Turned.the-variants.{On, Beyond, Made, Ended}
-use Rattle.replay.specs.Reading.{tableOf}
-use Rattle.replay.specs.Layout.{base, wordsOf, advanced, entered}
+use Rattle.replay.specs.Reading.{tableOf, termOf}
+use Rattle.replay.specs.Layout.{base, wordsOf, Spare, advanced, Enters, Known}
 use Rattle.replay.specs.Stack.{mark, chosen, rest}
-use Rattle.replay.specs.Turns.{termAt, positionAt, Framed, Begun, Sound, stateOf, leftOf, Room, Kept, Sought, TryContract, MadeWithin, settledAs, settledIn, TurnSays, TurnContract}
+use Rattle.replay.specs.Turns.{termAt, positionAt, Framed, Begun, Sound, Held, stateOf, leftOf, Room, Kept, Sought, TryContract, MadeWithin, Settles, Same, TurnSays, TurnContract}
 use Rattle.replay.proofs.ReadingLaw.{term-of, is-table, is-term}
 use Rattle.replay.proofs.StackLaw as Stack
-use Rattle.replay.proofs.LayoutLaw.{frame-before, advanced-long, advanced-behind, entered-long, entered-behind}
-use Rattle.replay.proofs.FrameLaw.{on-terms, on-top, on-positions, on-position, on-sound, in-terms, in-positions, in-top, in-position, in-sound}
+use Rattle.replay.proofs.RecallLaw as Recall
+use Rattle.replay.proofs.LayoutLaw.{frame-before, drop-later, advanced-long, advanced-behind}
+use Rattle.replay.proofs.FrameLaw.{on-terms, on-top, on-positions, on-position, on-held, on-sound, in-terms, in-positions, in-top, in-held, in-sound, back-held}
 use Rattle.minuska.proofs.AcceptedLaw.{term-length}
 use Rattle.replay.proofs.ToldLaw.{limit-words, Tells, tried-tells}
 
-module _ (ws : List ℤ) (index : List ℕ) (rules room : ℕ) (log : List ℕ) (out work : List ℤ) (d : ℕ) (rm : Room ws index rules room log out work) (deep : d < length log) (s : Sound rules room work d) where
+module _ (ws : List ℤ) (index : List ℕ) (rules room : ℕ) (log : List ℕ) (out work : List ℤ) (d : ℕ) (rm : Room ws index rules room log out work) (deep : d < length log) (s : Sound rules room (length log) work d) where
   abbrev t : Table
   t = tableOf ws
 
@@ -75,13 +78,16 @@ module _ (ws : List ℤ) (index : List ℕ) (rules room : ℕ) (log : List ℕ) 
       pub turn-back : (e : ℕ) → d ≡ suc e → TurnContract ws rules room log d out work out work (On e)
       unfolding stateOf leftOf
       turn-back e h =
-          let ups : (b : Bool) → stateOf t room log work b (suc e) ≡ stateOf t room log work b e = λ b. Stack.turn-up nodeCount (outLimit room) (next t) (order t) log term position b e (subst Nothing h nothing) in
+          let ups : Same t room log (suc e) work e work = λ b m. (
+            Stack.turn-up nodeCount (outLimit room) (next t) (order t) log term position b e (subst Nothing h nothing),
+            Recall.recalls-up nodeCount (outLimit room) (next t) (order t) log (Held room (length log) work (suc e)) (Held room (length log) work e) term position e (λ i u. back-held room (length log) work e i u) (omega arith) (subst Nothing h nothing) b m,
+          ) in
           record {
             kept = same;
             says = (
               omega arith,
-              record { frames = λ i j. s .frames i (omega arith); begun = λ i j. s .begun i (omega arith) },
-              (λ b. subst⁻¹ (λ (i : ℕ). stateOf t room log work b i ≡ stateOf t room log work b e) h (ups b)),
+              record { frames = λ i j. s .frames i (omega arith); begun = λ i j. s .begun i (omega arith); spare = s .spare },
+              subst⁻¹ (λ (i : ℕ). Same t room log i work e work) h ups,
               subst⁻¹ (λ (i : ℕ). leftOf t room log work e < leftOf t room log work i) h (Stack.left-up nodeCount (outLimit room) (next t) (order t) log term position e),
             );
           }
@@ -102,19 +108,23 @@ module _ (ws : List ℤ) (index : List ℕ) (rules room : ℕ) (log : List ℕ) 
       unfolding work₁
       behind₁ = advanced-behind room work (base room d) (q + 1) frame-fits (base room (length log)) (frame-before room d (length log) deep)
 
-      sound₁ : Sound rules room work₁ d
+      sound₁ : Sound rules room (length log) work₁ d
       unfolding work₁
-      sound₁ = on-sound rules room work d (q + 1) frame-fits s (omega arith)
+      sound₁ = on-sound rules room (length log) work d (q + 1) frame-fits s (omega arith)
+
+      held₁ : (i : ℕ) (u : Term) → Held room (length log) work₁ d i u → Held room (length log) work d i u
+      unfolding work₁
+      held₁ = on-held rules room (length log) work d (q + 1) frame-fits s
 
       -- what the stack's laws ask, of a work area in which these frames stand
       tries : (w : List ℤ) → ((i : ℕ) → i < suc d → termAt room w i ≡ termAt room work₁ i) → ((i : ℕ) → i < suc d → positionAt room w i ≡ positionAt room work₁ i) → Stack.Tries nodeCount (outLimit room) (next t) (order t) log term (termAt room w) position (positionAt room w) d q
       unfolding work₁
       tries w ht hp =
           record {
-            terms = λ i h. ht i (omega arith) ∙ on-terms rules room work d (q + 1) frame-fits s i h;
-            positions = λ i h. hp i (omega arith) ∙ on-positions rules room work d (q + 1) frame-fits s i h;
-            top = ht d (omega arith) ∙ on-top rules room work d (q + 1) frame-fits s;
-            on = hp d (omega arith) ∙ on-position rules room work d (q + 1) frame-fits s ∙ add-one q;
+            terms = λ i h. ht i (omega arith) ∙ on-terms rules room (length log) work d (q + 1) frame-fits s i h;
+            positions = λ i h. hp i (omega arith) ∙ on-positions rules room (length log) work d (q + 1) frame-fits s i h;
+            top = ht d (omega arith) ∙ on-top rules room (length log) work d (q + 1) frame-fits s;
+            on = hp d (omega arith) ∙ on-position rules room (length log) work d (q + 1) frame-fits s ∙ add-one q;
             there = omega (arith, rm .rules-are);
             idle = Stack.skipped nodeCount (outLimit room) (next t) (order t) log d (term d) (position d) q (k .above) (omega (arith, rm .rules-are)) (λ i a b. k .skipped i a b (term d));
           }
@@ -143,21 +153,28 @@ module _ (ws : List ℤ) (index : List ℕ) (rules room : ℕ) (log : List ℕ) 
           record { accepted = keeps-configuration t (good .accepted) action rule (term d) h (here .accepted) (next-iff t (good .accepted) action rule (term d) h .0 (gives (some h) e)) (omega arith); words = refl }
 
       module _ (out′ : List ℤ) where
-        pub turned-none : successorBy t rule (term d) ≡ none → TurnSays t rules room log d work out′ (advanced room work (base room d) (q + 1)) (On d)
-        unfolding stateOf leftOf work₁
+        turned-none : successorBy t rule (term d) ≡ none → TurnSays t rules room log d work out′ work₁ (On d)
+        unfolding stateOf leftOf
         turned-none e = (
           deep,
           sound₁,
-          (λ b. Stack.turn-none nodeCount (outLimit room) (next t) (order t) log term (termAt room work₁) position (positionAt room work₁) d q tries₁ b (gives none e)),
+          (λ b m. (
+            Stack.turn-none nodeCount (outLimit room) (next t) (order t) log term (termAt room work₁) position (positionAt room work₁) d q tries₁ b (gives none e),
+            Recall.recalls-none nodeCount (outLimit room) (next t) (order t) log (Held room (length log) work d) (Held room (length log) work₁ d) term (termAt room work₁) position (positionAt room work₁) d q tries₁ b m held₁ (rw (gives none e)),
+          )),
           Stack.left-try nodeCount (outLimit room) (next t) (order t) log term (termAt room work₁) position (positionAt room work₁) d q tries₁,
         )
 
         module _ (h : Term) (e : successorBy t rule (term d) ≡ some h) where
-          pub turned-beyond : leb (nodeCount h) (outLimit room) ≡ false → TurnSays t rules room log d work out′ (advanced room work (base room d) (q + 1)) Beyond
-          unfolding stateOf leftOf work₁
+          turned-beyond : leb (nodeCount h) (outLimit room) ≡ false → TurnSays t rules room log d work out′ work₁ Beyond
+          unfolding stateOf leftOf
           turned-beyond large = (
             sound₁,
-            (λ b. Stack.turn-beyond nodeCount (outLimit room) (next t) (order t) log term (termAt room work₁) position (positionAt room work₁) d q tries₁ b h (gives (some h) e) large),
+            (λ b m. (
+              Stack.turn-beyond nodeCount (outLimit room) (next t) (order t) log term (termAt room work₁) position (positionAt room work₁) d q tries₁ b h (gives (some h) e) large,
+              Recall.recalls-beyond nodeCount (outLimit room) (next t) (order t) log (Held room (length log) work d) (Held room (length log) work₁ d) term (termAt room work₁) position (positionAt room work₁) d q tries₁ b m held₁
+                  (Stack.attempted nodeCount (outLimit room) (next t) (order t) log term (termAt room work₁) position (positionAt room work₁) d q tries₁ h false (gives (some h) e) large),
+            )),
             Stack.left-try nodeCount (outLimit room) (next t) (order t) log term (termAt room work₁) position (positionAt room work₁) d q tries₁,
           )
 
@@ -169,8 +186,8 @@ module _ (ws : List ℤ) (index : List ℕ) (rules room : ℕ) (log : List ℕ) 
             is = subst⁻¹ (λ (c : List ℤ). IsConfiguration c h) front (is-configuration h e fit)
 
             -- it is the last
-            pub turned-made : length log ≤ d + 1 → TurnSays t rules room log d work out′ (advanced room work (base room d) (q + 1)) (Made (2 * n))
-            unfolding stateOf work₁
+            turned-made : length log ≤ d + 1 → TurnSays t rules room log d work out′ work₁ (Made (2 * n))
+            unfolding stateOf
             turned-made l =
                 let all : length log ≡ suc d = omega arith in (
                   record { fits = few; accepted = record { term = h; is = is }; begun = λ i j. begun₁ i (omega arith) },
@@ -178,90 +195,109 @@ module _ (ws : List ℤ) (index : List ℕ) (rules room : ℕ) (log : List ℕ) 
                       ∙ ap₂ (λ (m : ℕ) (g : Term). reproduced (chosen (order t) (positionAt room work₁) m) g) (sym all) (sym (term-of (take (2 * n) out′) h is)),
                 )
 
-            -- it is entered
+            -- it is not
             module _ (l : suc d < length log) where
               abbrev c : List ℤ
               c = take (2 * n) out′
 
-              work₂ : List ℤ
-              work₂ = entered room work₁ (base room (suc d)) c
+              -- it is known
+              turned-known : Known room work₁ (base room (suc d)) c → TurnSays t rules room log d work out′ work₁ (On d)
+              unfolding stateOf leftOf
+              turned-known k =
+                  let own : Held room (length log) work₁ d (suc d) h = (omega arith, l, k .0, ap termOf (k .1) ∙ term-of c h is) in
+                  let try = Stack.attempted nodeCount (outLimit room) (next t) (order t) log term (termAt room work₁) position (positionAt room work₁) d q tries₁ h true (gives (some h) e) fit in (
+                    deep,
+                    sound₁,
+                    (λ b m. (
+                      Recall.turn-skip nodeCount (outLimit room) (next t) (order t) log (Held room (length log) work d) (Held room (length log) work₁ d) term (termAt room work₁) position (positionAt room work₁) d q tries₁ b m h try (held₁ (suc d) h own),
+                      Recall.recalls-skip nodeCount (outLimit room) (next t) (order t) log (Held room (length log) work d) (Held room (length log) work₁ d) term (termAt room work₁) position (positionAt room work₁) d q tries₁ b m h try held₁ (held₁ (suc d) h own),
+                    )),
+                    Stack.left-try nodeCount (outLimit room) (next t) (order t) log term (termAt room work₁) position (positionAt room work₁) d q tries₁,
+                  )
 
-              small : length c ≤ room
-              small = omega (arith, ap length front, term-length h, few)
+              -- it is entered
+              module _ (work₂ : List ℤ) (ent : Enters room work₁ work₂ (base room (suc d)) c) where
+                small : length c ≤ room
+                small = omega (arith, ap length front, term-length h, few)
 
-              fits₂ : base room (suc d) + (room + 2) ≤ length work₁
-              fits₂ = omega (arith, long₁, frame-before room (suc d) (length log) l, rm .work-fits)
+                frames₁ : (i : ℕ) → i < suc d → Framed rules room work₁ (base room i)
+                frames₁ i j = sound₁ .frames i (omega arith)
 
-              frames₁ : (i : ℕ) → i < suc d → Framed rules room work₁ (base room i)
-              frames₁ i j = sound₁ .frames i (omega arith)
+                tries₂ : Stack.Tries nodeCount (outLimit room) (next t) (order t) log term (termAt room work₂) position (positionAt room work₂) d q
+                tries₂ = tries work₂ (in-terms rules room (length log) work₁ work₂ (suc d) c small ent frames₁) (in-positions rules room (length log) work₁ work₂ (suc d) c small ent frames₁)
 
-              tries₂ : Stack.Tries nodeCount (outLimit room) (next t) (order t) log term (termAt room work₂) position (positionAt room work₂) d q
-              unfolding work₂
-              tries₂ = tries work₂ (in-terms rules room work₁ (suc d) c fits₂ small frames₁) (in-positions rules room work₁ (suc d) c fits₂ small frames₁)
+                top₂ : termAt room work₂ (suc d) ≡ h
+                top₂ = in-top rules room (length log) work₁ work₂ (suc d) c small ent frames₁ ∙ term-of c h is
 
-              top₂ : termAt room work₂ (suc d) ≡ h
-              unfolding work₂
-              top₂ = in-top rules room work₁ (suc d) c fits₂ small frames₁ ∙ term-of c h is
+                held₂ : (i : ℕ) (u : Term) → Held room (length log) work₂ (suc d) i u → Held room (length log) work d i u
+                held₂ i u k = held₁ i u (in-held rules room (length log) work₁ work₂ (suc d) c small ent frames₁ (sound₁ .spare) d i u (omega arith) k)
 
-              position₂ : positionAt room work₂ (suc d) ≡ 0
-              unfolding work₂
-              position₂ = in-position rules room work₁ (suc d) c fits₂ small frames₁
+                turned-down : TurnSays t rules room log d work out′ work₂ (On (suc d))
+                unfolding stateOf leftOf
+                turned-down = (
+                  l,
+                  in-sound rules room (length log) work₁ work₂ (suc d) c small ent frames₁ (record { term = h; is = is }) (λ i j. begun₁ i j .some) (λ i j k. sound₁ .spare i j),
+                  (λ b m. (
+                    Stack.turn-down nodeCount (outLimit room) (next t) (order t) log term (termAt room work₂) position (positionAt room work₂) d q tries₂ b h (gives (some h) e) fit l top₂ (ent .position),
+                    Recall.recalls-down nodeCount (outLimit room) (next t) (order t) log (Held room (length log) work d) (Held room (length log) work₂ (suc d)) term (termAt room work₂) position (positionAt room work₂) d q tries₂ b m h
+                        (Stack.attempted nodeCount (outLimit room) (next t) (order t) log term (termAt room work₂) position (positionAt room work₂) d q tries₂ h true (gives (some h) e) fit) held₂ top₂ (ent .position),
+                  )),
+                  Stack.left-down nodeCount (outLimit room) (next t) (order t) log term (termAt room work₂) position (positionAt room work₂) d q tries₂ h (gives (some h) e) l top₂ (ent .position),
+                )
 
-              turned-down : TurnSays t rules room log d work out′ work₂ (On (suc d))
-              unfolding stateOf leftOf work₂
-              turned-down = (
-                l,
-                in-sound rules room work₁ (suc d) c fits₂ small frames₁ (record { term = h; is = is }) (λ i j. begun₁ i j .some),
-                (λ b. Stack.turn-down nodeCount (outLimit room) (next t) (order t) log term (termAt room work₂) position (positionAt room work₂) d q tries₂ b h (gives (some h) e) fit l top₂ position₂),
-                Stack.left-down nodeCount (outLimit room) (next t) (order t) log term (termAt room work₂) position (positionAt room work₂) d q tries₂ h (gives (some h) e) l top₂ position₂,
-              )
+                long₂ : length work₂ ≡ length work
+                long₂ = ent .wide ∙ long₁
 
-              long₂ : length work₂ ≡ length work
-              unfolding work₂
-              long₂ = entered-long room work₁ (base room (suc d)) c fits₂ small ∙ long₁
-
-              behind₂ : drop (base room (length log)) work₂ ≡ drop (base room (length log)) work
-              unfolding work₂
-              behind₂ = entered-behind room work₁ (base room (suc d)) c fits₂ small (base room (length log)) (frame-before room (suc d) (length log) l) ∙ behind₁
+                behind₂ : drop (base room (length log)) work₂ ≡ drop (base room (length log)) work
+                behind₂ = drop-later (base room (suc d) + (room + 2)) (base room (length log)) work₂ work₁ (ent .behind) (frame-before room (suc d) (length log) l) ∙ behind₁
 
       -- THE TURN, by the rule's answer
       module _ (out′ : List ℤ) where
         kept : (w : List ℤ) → length w ≡ length work → drop (base room (length log)) w ≡ drop (base room (length log)) work → length out′ ≡ length out → drop room out′ ≡ drop room out → Kept room (length log) out work out′ w
         kept w e f a b = record { long = e; work-kept = f; wide = a; out-kept = b }
 
-        settled : (r : StepAnswer) → Tells (successorBy t rule (term d)) room out out′ r → TurnContract ws rules room log d out work out′ (settledIn r (length log) room d out′ work₁) (settledAs r (length log) d)
-        unfolding work₁ work₂
-        settled S.Stuck z = record { kept = kept work₁ long₁ behind₁ (z .wide) (z .kept); says = turned-none out′ (z .told) }
-        settled (S.Refused x) z = record { kept = kept work₁ long₁ behind₁ (z .wide) (z .kept); says = turned-beyond out′ (z .told .0) (z .told .1) (z .told .2) }
-        settled (S.Stepped m a n) z = go (ltb (d + 1) (length log)) refl
-          where
-            go : (b : Bool) → ltb (d + 1) (length log) ≡ b
-                → TurnContract ws rules room log d out work out′ (cond b (entered room work₁ (base room (d + 1)) (take (2 * n) out′)) work₁) (cond b (On (d + 1)) (Made (2 * n)))
-            go false f = record { kept = kept work₁ long₁ behind₁ (z .wide) (z .kept); says = turned-made out′ (z .told .0) (z .told .1) (z .told .2) n (z .told .3) (z .told .4) (ltb-false (d + 1) (length log) f) }
-            go true f =
-                let l : suc d < length log = let g = ltb-true (d + 1) (length log) f in omega arith in
-                rw (add-one d) (record {
-                  kept = kept (work₂ out′ (z .told .0) (z .told .1) (z .told .2) n (z .told .3) (z .told .4) l) (long₂ out′ (z .told .0) (z .told .1) (z .told .2) n (z .told .3) (z .told .4) l) (behind₂ out′ (z .told .0) (z .told .1) (z .told .2) n (z .told .3) (z .told .4) l) (z .wide) (z .kept);
-                  says = turned-down out′ (z .told .0) (z .told .1) (z .told .2) n (z .told .3) (z .told .4) l;
-                })
+        unmoved : (r x : Turned) (w : List ℤ) → r ≡ x → w ≡ work₁ → length out′ ≡ length out → drop room out′ ≡ drop room out → TurnSays t rules room log d work out′ work₁ x → TurnContract ws rules room log d out work out′ w r
+        unmoved r x w e f a b z = rw (e, f) (record { kept = kept work₁ long₁ behind₁ a b; says = z })
+
+        settled : (a : StepAnswer) → Tells (successorBy t rule (term d)) room out out′ a → (w : List ℤ) (r : Turned) → Settles a (length log) room d out′ work₁ w r → TurnContract ws rules room log d out work out′ w r
+        settled S.Stuck z w r k = unmoved r (On d) w (k .0) (k .1) (z .wide) (z .kept) (turned-none out′ (z .told))
+        settled (S.Refused x) z w r k = unmoved r Beyond w (k .0) (k .1) (z .wide) (z .kept) (turned-beyond out′ (z .told .0) (z .told .1) (z .told .2))
+        settled (S.Stepped m a n) z w r (inl k) =
+            let l : suc d < length log = omega (arith, k .0) in
+            let ent : Enters room work₁ w (base room (suc d)) (take (2 * n) out′) = rw (add-one d) at (k .2) in
+            let on : r ≡ On (suc d) = rw (add-one d) at (k .1) in
+            rw on (record {
+              kept = kept w (long₂ out′ (z .told .0) (z .told .1) (z .told .2) n (z .told .3) (z .told .4) l w ent) (behind₂ out′ (z .told .0) (z .told .1) (z .told .2) n (z .told .3) (z .told .4) l w ent) (z .wide) (z .kept);
+              says = turned-down out′ (z .told .0) (z .told .1) (z .told .2) n (z .told .3) (z .told .4) l w ent;
+            })
+        settled (S.Stepped m a n) z w r (inr (inl k)) =
+            let l : suc d < length log = omega (arith, k .0) in
+            let known : Known room work₁ (base room (suc d)) (take (2 * n) out′) = rw (add-one d) at (k .3) in
+            unmoved r (On d) w (k .1) (k .2) (z .wide) (z .kept) (turned-known out′ (z .told .0) (z .told .1) (z .told .2) n (z .told .3) (z .told .4) l known)
+        settled (S.Stepped m a n) z w r (inr (inr k)) =
+            unmoved r (Made (2 * n)) w (k .1) (k .2) (z .wide) (z .kept) (turned-made out′ (z .told .0) (z .told .1) (z .told .2) n (z .told .3) (z .told .4) (k .0))
 
       -- the same, of what `try_at` answers and leaves
       module _ (out′ : List ℤ) (r : StepAnswer) (tr : TryContract ws (wordsOf room work (base room d)) rule room out out′ r) where
         tells : Tells (successorBy t rule (term d)) room out out′ r
         tells = tried-tells ws (wordsOf room work (base room d)) t (term d) good (is-term (wordsOf room work (base room d)) (s .frames d (omega arith) .accepted)) rule room out out′ r (rm .out-fits) tr
 
-        pub turned : TurnContract ws rules room log d out work out′ (settledIn r (length log) room d out′ (advanced room work (base room d) (q + 1))) (settledAs r (length log) d)
+        pub turned : (w : List ℤ) (x : Turned) → Settles r (length log) room d out′ (advanced room work (base room d) (q + 1)) w x → TurnContract ws rules room log d out work out′ w x
         unfolding work₁
-        turned = settled out′ r tells
+        turned w x k = settled out′ r tells w x k
 
-        -- what `settle` asks of the answer
+        -- what `settle` asks of the answer, and of the frames
         within : (x : StepAnswer) → Tells (successorBy t rule (term d)) room out out′ x → MadeWithin x room (length out′)
         within S.Stuck z = tt
         within (S.Refused x) z = tt
         within (S.Stepped m a n) z =
             let f = limit-words room (nodeCount (z .told .0)) (z .told .2) in
             let g : nodeCount (z .told .0) ≡ n = z .told .3 in
-            (omega arith, omega (arith, z .wide, rm .out-fits))
+            (omega arith, omega arith, omega (arith, z .wide, rm .out-fits))
 
         pub made-within : MadeWithin r room (length out′)
         made-within = within r tells
+
+      pub spare-within : (i : ℕ) → i < length log → Spare room (advanced room work (base room d) (q + 1)) (base room i)
+      unfolding work₁
+      spare-within = sound₁ .spare

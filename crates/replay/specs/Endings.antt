@@ -4,6 +4,7 @@ use mathlib.Core.List.{List, _++_}
 use Prim.Native.Nat.{ℕ, _+_, _-_, _≤_, _<_}
 use lib.IntN.{ℤ}
 use lib.ListN.{length, take, drop}
+use lib.Seq.{paste}
 use Rattle.minuska.specs.Answer.{gives}
 use Rattle.minuska.specs.Slice.{replayAnswer, replayOut, replayChoices, writeZeros}
 use Rattle.minuska.specs.Computed.Step.{order}
@@ -15,9 +16,15 @@ use Rattle.minuska.specs.Slice.{outLimit}
 use Rattle.replay.specs.declared.search.Found.{Found}
 use Rattle.replay.specs.declared.search.Found.the-variants.{Path, Over, Nothing}
 use Rattle.replay.specs.Reading.{tableOf, termOf}
-use Rattle.replay.specs.Layout.{base}
+use Rattle.replay.specs.Layout.{base, entered, Forgets}
 use Rattle.replay.specs.Stack.{chosen}
 use Rattle.replay.specs.Turns.{positionAt, Begun}
+
+-- the work area that is set up for a log of m actions: out's words behind the m frames, and no frame with a configuration but the first, which has the initial one
+pub record SetsUp (room m : ℕ) (cs out work work′ : List ℤ) : Type 0 where
+  pub cleared : List ℤ
+  pub forgets : Forgets room m (paste work (base room m) (take room out) room) cleared
+  pub is : work′ ≡ entered room cleared 0 cs
 
 -- out with the first k words as they are, and behind them, up to `room`, what was kept for it at a place of the work area
 abbrev pub restored : ℕ → ℕ → ℕ → List ℤ → List ℤ → List ℤ

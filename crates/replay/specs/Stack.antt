@@ -1,9 +1,10 @@
 -- minuska's search as a loop over a stack of frames. Frame i stands at depth i of the log: a configuration, and the next position to try in the order of rules.
 -- The frames are two functions of the depth, `term` and `position`, so that any layout in memory serves.
+use mathlib.Core.Path.{_≡_}
 use mathlib.Core.Bool.{Bool, true, false}
 use mathlib.Core.Option.{Option, none, some}
 use mathlib.Core.List.{List, [], _∷_, _++_}
-use Prim.Native.Nat.{ℕ, zero, suc, pred, _+_}
+use Prim.Native.Nat.{ℕ, zero, suc, pred, _+_, _<_}
 use lib.ListN.{getD, drop}
 use Rattle.minuska.specs.Answer.{ReplayResult, exceeded, notReproduced}
 use Rattle.minuska.specs.Computed.Replay.{orLater, prepend, tryAll, attempt, search}
@@ -31,6 +32,25 @@ module _ {A : Type 0} (size : A → ℕ) (limit : ℕ) (next : ℕ → ℕ → A
   -- what a search will say that stands at depth d
   unfoldable pub state : (ℕ → A) → (ℕ → ℕ) → Bool → ℕ → ReplayResult A
   state term position over d = orLater (mark over) (resume term position d (rest d (term d) (position d)))
+
+  -- ---- what the search remembers, over a mark: whether a successor above the limit was met
+  -- the search from depth d at u gave no list, and what it met above the limit is marked
+  unfoldable pub EndedAt : Bool → ℕ → A → Type 0
+  EndedAt over d u = orLater (mark over) (search size limit next rules (drop d log) u) ≡ mark over
+
+  -- what was tried at depth d before position p adds nothing
+  unfoldable pub Passed : Bool → ℕ → A → ℕ → Type 0
+  Passed over d t p = orLater (mark over) (rest d t 0) ≡ orLater (mark over) (rest d t p)
+
+  -- the rule before position p, tried last, led to u: what was tried before it adds nothing
+  unfoldable pub Waits : Bool → ℕ → A → ℕ → A → Type 0
+  Waits over d t p u = orLater (mark over) (rest d t 0) ≡ orLater (mark over) (orLater (prepend (getD rules (pred p) 0) (search size limit next rules (drop (suc d) log) u)) (rest d t p))
+
+  -- a search at depth d that holds some configurations, each for a depth
+  pub record Recalls (held : ℕ → A → Type 0) (term : ℕ → A) (position : ℕ → ℕ) (over : Bool) (d : ℕ) : Type 0 where
+    pub passed : Passed over d (term d) (position d)
+    pub waits : (i : ℕ) → i < d → Waits over i (term i) (position i) (term (suc i))
+    pub ended : (i : ℕ) (u : A) → held i u → EndedAt over i u
 
 -- the turns left: below a successor; at some rules
 abbrev pub below : {A : Type 0} → (A → ℕ) → Option A → ℕ

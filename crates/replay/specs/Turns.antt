@@ -1,10 +1,10 @@
 -- What one turn of the search promises, and the whole search, over a table and the words in the work area. `room` is 2N.
 use mathlib.Core.Path.{_≡_}
-use mathlib.Core.Bool.{Bool, true, false, cond}
+use mathlib.Core.Bool.{Bool, true, false}
+use mathlib.Core.Logic.{_⊎_}
 use mathlib.Core.Option.{none}
 use mathlib.Core.List.{List, _++_}
 use Prim.Native.Nat.{ℕ, suc, _+_, _*_, _≤_, _<_}
-use lib.Dec.{ltb}
 use lib.IntN.{ℤ}
 use lib.ListN.{length, getD, take, drop}
 use Rattle.minuska.specs.Term.{Term, nodeCount}
@@ -21,8 +21,8 @@ use Rattle.replay.specs.declared.search.Turned.the-variants.{On, Beyond,
 use Rattle.replay.specs.declared.search.Found.{Found}
 use Rattle.replay.specs.declared.search.Found.the-variants.{Path, Over, Nothing}
 use Rattle.replay.specs.Reading.{tableOf, termOf}
-use Rattle.replay.specs.Layout.{base, lengthOf, positionOf, wordsOf, Counted, entered}
-use Rattle.replay.specs.Stack.{mark, chosen, state, left}
+use Rattle.replay.specs.Layout.{base, lengthOf, positionOf, wordsOf, Counted, Spare, Enters, Known}
+use Rattle.replay.specs.Stack.{mark, chosen, state, left, Recalls}
 
 -- ---- the frames
 abbrev pub termAt : ℕ → List ℤ → ℕ → Term
@@ -44,14 +44,23 @@ pub record Begun (rules room : ℕ) (work : List ℤ) (at : ℕ) : Type 0 where
   pub some : 0 < positionOf room work at
   pub within : positionOf room work at ≤ rules
 
--- the frames up to depth d; those below d have tried a rule
-pub record Sound (rules room : ℕ) (work : List ℤ) (d : ℕ) : Type 0 where
+-- the frames up to depth d; those below d have tried a rule; the configuration of any of the m frames may be looked at
+pub record Sound (rules room m : ℕ) (work : List ℤ) (d : ℕ) : Type 0 where
   pub frames : (i : ℕ) → i ≤ d → Framed rules room work (base room i)
   pub begun : (i : ℕ) → i < d → 0 < positionAt room work i
+  pub spare : (i : ℕ) → i < m → Spare room work (base room i)
+
+-- what is held for depth i while the search stands at depth d: the configuration of a frame behind d, whose search has ended
+abbrev pub Held : ℕ → ℕ → List ℤ → ℕ → ℕ → Term → Type 0
+Held room m work d i u = (d < i) × (i < m) × (0 < lengthOf room work (base room i)) × (termAt room work i ≡ u)
 
 -- what the search will say that stands at depth d, with whether a successor above the limit was met; and the turns that it has left
 unfoldable pub stateOf : Table → ℕ → List ℕ → List ℤ → Bool → ℕ → ReplayResult Term
 stateOf t room log work over d = state nodeCount (outLimit room) (next t) (order t) log (termAt room work) (positionAt room work) over d
+
+-- the memory is sound, with whether a successor above the limit was met
+abbrev pub MemoryOf : Table → ℕ → List ℕ → List ℤ → Bool → ℕ → Type 0
+MemoryOf t room log work over d = Recalls nodeCount (outLimit room) (next t) (order t) log (Held room (length log) work d) (termAt room work) (positionAt room work) over d
 
 unfoldable pub leftOf : Table → ℕ → List ℕ → List ℤ → ℕ → ℕ
 leftOf t room log work d = left (next t) (order t) log (termAt room work) (positionAt room work) (suc d)
@@ -86,19 +95,19 @@ pub record TryContract (ws cs : List ℤ) (n room : ℕ) (out out′ : List ℤ)
 
 -- ---- what a rule's answer comes to at depth d of a log of m actions: a successor fits its room; the turn's answer; the work area
 abbrev pub MadeWithin : StepAnswer → ℕ → ℕ → Type 0
-MadeWithin (S.Stepped n a k) room out = (2 * k ≤ room) × (2 * k ≤ out)
+MadeWithin (S.Stepped n a k) room out = (0 < k) × (2 * k ≤ room) × (2 * k ≤ out)
 MadeWithin S.Stuck room out = Unit {0}
 MadeWithin (S.Refused r) room out = Unit {0}
 
-abbrev pub settledAs : StepAnswer → ℕ → ℕ → Turned
-settledAs (S.Stepped n a k) m d = cond (ltb (d + 1) m) (On (d + 1)) (Made (2 * k))
-settledAs S.Stuck m d = On d
-settledAs (S.Refused r) m d = Beyond
+-- a successor, so many words of out: it is entered; or passed over, since it is known; or the last
+abbrev pub Descends : ℕ → ℕ → ℕ → ℕ → List ℤ → List ℤ → List ℤ → Turned → Type 0
+Descends k m room d out work work′ r =
+    ((d + 1 < m) × (r ≡ On (d + 1)) × Enters room work work′ (base room (d + 1)) (take k out)) ⊎ ((d + 1 < m) × (r ≡ On d) × (work′ ≡ work) × Known room work (base room (d + 1)) (take k out)) ⊎ ((m ≤ d + 1) × (r ≡ Made k) × (work′ ≡ work))
 
-abbrev pub settledIn : StepAnswer → ℕ → ℕ → ℕ → List ℤ → List ℤ → List ℤ
-settledIn (S.Stepped n a k) m room d out work = cond (ltb (d + 1) m) (entered room work (base room (d + 1)) (take (2 * k) out)) work
-settledIn S.Stuck m room d out work = work
-settledIn (S.Refused r) m room d out work = work
+abbrev pub Settles : StepAnswer → ℕ → ℕ → ℕ → List ℤ → List ℤ → List ℤ → Turned → Type 0
+Settles (S.Stepped n a k) m room d out work work′ r = Descends (2 * k) m room d out work work′ r
+Settles S.Stuck m room d out work work′ r = (r ≡ On d) × (work′ ≡ work)
+Settles (S.Refused x) m room d out work work′ r = (r ≡ Beyond) × (work′ ≡ work)
 
 -- ---- a path is found: k words of out are its last configuration, and each frame has tried a rule
 pub record Finds (rules room : ℕ) (log : List ℕ) (out work : List ℤ) (k : ℕ) : Type 0 where
@@ -109,12 +118,18 @@ pub record Finds (rules room : ℕ) (log : List ℕ) (out work : List ℤ) (k : 
 abbrev pub found : Table → ℕ → List ℕ → List ℤ → List ℤ → ℕ → ReplayResult Term
 found t room log out work k = reproduced (chosen (order t) (positionAt room work) (length log)) (termOf (take k out))
 
--- ---- one turn at depth d: the search will say what it would have said, and has fewer turns left
+-- ---- one turn at depth d: the search will say what it would have said, for each mark at which its memory is sound, and has fewer turns left
+abbrev pub Same : Table → ℕ → List ℕ → ℕ → List ℤ → ℕ → List ℤ → Type 0
+Same t room log d work e work′ = (b : Bool) → MemoryOf t room log work b d → (stateOf t room log work b d ≡ stateOf t room log work′ b e) × MemoryOf t room log work′ b e
+
+abbrev pub Marks : Table → ℕ → List ℕ → ℕ → List ℤ → List ℤ → Type 0
+Marks t room log d work work′ = (b : Bool) → MemoryOf t room log work b d → (stateOf t room log work b d ≡ stateOf t room log work′ true d) × MemoryOf t room log work′ true d
+
 abbrev pub TurnSays : Table → ℕ → ℕ → List ℕ → ℕ → List ℤ → List ℤ → List ℤ → Turned → Type 0
 TurnSays t rules room log d work out′ work′ (On e) =
-    (e < length log) × Sound rules room work′ e × ((b : Bool) → stateOf t room log work b d ≡ stateOf t room log work′ b e) × (leftOf t room log work′ e < leftOf t room log work d)
+    (e < length log) × Sound rules room (length log) work′ e × Same t room log d work e work′ × (leftOf t room log work′ e < leftOf t room log work d)
 TurnSays t rules room log d work out′ work′ Beyond =
-    Sound rules room work′ d × ((b : Bool) → stateOf t room log work b d ≡ stateOf t room log work′ true d) × (leftOf t room log work′ d < leftOf t room log work d)
+    Sound rules room (length log) work′ d × Marks t room log d work work′ × (leftOf t room log work′ d < leftOf t room log work d)
 TurnSays t rules room log d work out′ work′ (Made k) =
     Finds rules room log out′ work′ k × ((b : Bool) → stateOf t room log work b d ≡ found t room log out′ work′ k)
 TurnSays t rules room log d work out′ work′ Ended = (b : Bool) → stateOf t room log work b d ≡ mark b

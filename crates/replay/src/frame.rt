@@ -4,7 +4,7 @@ use crate::words;
 ghost use mathlib.Core.Path.{_≡_};
 ghost use Prim.Native.Nat.{_+_, _^_, _≤_, _<_};
 ghost use lib.ListN.{length};
-ghost use Rattle.replay.specs.Layout.{base, lengthOf, positionOf, wordsOf, Counted, advanced, entered};
+ghost use Rattle.replay.specs.Layout.{base, positionOf, wordsOf, Counted, Spare, advanced, entered};
 
 // Where the frame at a depth begins.
 pub fn base_at(room: usize, depth: usize) -> usize
@@ -22,7 +22,7 @@ pub fn position(work: &[i64], at: usize, room: usize) -> usize
 }
 
 pub fn configuration(work: &[i64], at: usize, room: usize) -> &[i64]
-    requires { ⌜ (at + (room + 2) ≤ length (now work)) × Counted room (now work) at × (lengthOf room (now work) at ≤ room) ⌝ }
+    requires { ⌜ (at + (room + 2) ≤ length (now work)) × Spare room (now work) at ⌝ }
     ensures { λ r. ⌜ now r ≡ wordsOf room (now (work .entry)) at ⌝ }
 {
     let end = at + words::number_at(work, at + room);

@@ -1,6 +1,7 @@
 // The replay: is there a path of rule steps, none above the limit, that yields a log of actions? It relies on the step's stated answer alone.
 mod ending;
 mod frame;
+mod memory;
 mod search;
 mod sizes;
 mod words;
@@ -9,20 +10,27 @@ use minuska::Check;
 use minuska::ReplayAnswer;
 ghost use mathlib.Core.Path.{_≡_};
 ghost use Prim.Native.Nat.{_+_, _≤_};
-ghost use lib.ListN.{length, take};
-ghost use lib.Seq.{paste};
+ghost use lib.ListN.{length};
 ghost use Rattle.minuska.specs.Computed.Place.{Accepted};
 ghost use Rattle.minuska.specs.Contract.{ReplayContract};
-ghost use Rattle.replay.specs.Layout.{entered};
+ghost use Rattle.replay.specs.Layout.{base};
 ghost use Rattle.replay.specs.Turns.{Room};
-ghost use Rattle.replay.specs.Endings.{AnswerContract};
+ghost use Rattle.replay.specs.Endings.{SetsUp, AnswerContract};
 
-// The initial configuration's frame, and what out holds, kept in the frame at `last`.
-fn set_up(work: &mut [i64], out: &[i64], last: usize, room: usize, configuration: &[i64])
-    requires { ⌜ (last + (room + 2) ≤ length (now work)) × (room ≤ length (now out)) × (length (now configuration) ≤ room) × (room ≤ 65536) ⌝ }
-    ensures { λ _. ⌜ now (work .exit) ≡ entered room (paste (now (work .entry)) last (take room (now (out .entry))) room) 0 (now (configuration .entry)) ⌝ }
+// What out holds, kept in the frame at `last`; no other frame holds a configuration, but the first the initial one.
+fn set_up(
+    work: &mut [i64],
+    out: &[i64],
+    last: usize,
+    actions: usize,
+    room: usize,
+    configuration: &[i64],
+)
+    requires { ⌜ (last + (room + 2) ≤ length (now work)) × (last ≡ base room actions) × (room ≤ length (now out)) × (length (now configuration) ≤ room) × (room ≤ 65536) ⌝ }
+    ensures { λ _. ⌜ SetsUp room actions (now (configuration .entry)) (now (out .entry)) (now (work .entry)) (now (work .exit)) ⌝ }
 {
     words::copy_in(work, last, &out[..room]);
+    memory::forget(work, room, actions);
     frame::enter(work, 0, room, configuration);
 }
 
@@ -50,7 +58,7 @@ fn answer(
         words::clear(work, last + (room + 2));
         return ReplayAnswer::Reproduced;
     }
-    set_up(work, out, last, room, configuration);
+    set_up(work, out, last, actions, room, configuration);
     let found = search::find(table, index, log, rules, room, out, work);
     ending::conclude(found, table, index, actions, room, out, choices, work)
 }

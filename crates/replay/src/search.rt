@@ -1,15 +1,17 @@
 // A depth-first search over frames in the work area: frame i holds the configuration after i actions of the log. The last depth needs no frame, since what
 // stands there is the answer: each successor is made at the start of out, and copied into the next frame.
 use crate::frame;
+use crate::memory;
 use minuska::StepAnswer;
 ghost use mathlib.Core.Path.{_≡_};
-ghost use Prim.Native.Nat.{_+_, _*_, _≤_, _<_};
+ghost use mathlib.Core.Bool.{false};
+ghost use Prim.Native.Nat.{ℕ, _+_, _*_, _≤_, _<_};
 ghost use lib.ListN.{length, getD};
 ghost use Rattle.minuska.specs.Computed.Step.{order};
 ghost use Rattle.minuska.specs.Computed.Place.{Indexed};
 ghost use Rattle.replay.specs.Reading.{tableOf};
-ghost use Rattle.replay.specs.Layout.{wordsOf};
-ghost use Rattle.replay.specs.Turns.{positionAt, Framed, Sound, Room, Sought, TryContract, MadeWithin, settledAs, settledIn, TurnContract, SearchContract};
+ghost use Rattle.replay.specs.Layout.{base, wordsOf, Spare};
+ghost use Rattle.replay.specs.Turns.{positionAt, Framed, Sound, MemoryOf, Room, Sought, TryContract, MadeWithin, Descends, Settles, TurnContract, SearchContract};
 
 // What one turn comes to.
 pub enum Turned {
@@ -69,7 +71,33 @@ fn try_at<'a>(
     step::apply_rule(table, index, configuration, rule, &mut out[..room])
 }
 
-// What a rule's answer comes to at a depth of a log of `actions`: its successor is entered, unless it is the last.
+// A successor, the first `words` words of out: it is entered, unless it is known or the last.
+fn descend(
+    words: usize,
+    actions: usize,
+    room: usize,
+    depth: usize,
+    out: &[i64],
+    work: &mut [i64],
+) -> Turned
+    requires { ⌜ (depth < actions) × (actions * (room + 2) ≤ length (now work)) × (room ≤ 65536) ⌝ }
+    requires { ⌜ (0 < words) × (words ≤ room) × (words ≤ length (now out)) ⌝ }
+    requires { ⌜ ((i : ℕ) → i < actions → Spare room (now work) (base room i)) ⌝ }
+    ensures { λ r. ⌜ Descends words actions room depth (now (out .entry)) (now (work .entry)) (now (work .exit)) r ⌝ }
+{
+    let next = depth + 1;
+    if next < actions {
+        let at = frame::base_at(room, next);
+        if memory::known(work, at, room, &out[..words]) {
+            return Turned::On(depth);
+        }
+        frame::enter(work, at, room, &out[..words]);
+        return Turned::On(next);
+    }
+    Turned::Made(words)
+}
+
+// What a rule's answer comes to at a depth of a log of `actions`.
 fn settle(
     answer: StepAnswer,
     actions: usize,
@@ -80,8 +108,8 @@ fn settle(
 ) -> Turned
     requires { ⌜ (depth < actions) × (actions * (room + 2) ≤ length (now work)) × (room ≤ 65536) ⌝ }
     requires { ⌜ MadeWithin answer room (length (now out)) ⌝ }
-    ensures answer { λ r. ⌜ r ≡ settledAs answer actions depth ⌝ }
-    ensures work { λ _. ⌜ now (work .exit) ≡ settledIn answer actions room depth (now (out .entry)) (now (work .entry)) ⌝ }
+    requires { ⌜ ((i : ℕ) → i < actions → Spare room (now work) (base room i)) ⌝ }
+    ensures { λ r. ⌜ Settles answer actions room depth (now (out .entry)) (now (work .entry)) (now (work .exit)) r ⌝ }
 {
     match answer {
         StepAnswer::Stuck => Turned::On(depth),
@@ -90,16 +118,7 @@ fn settle(
             rule: _,
             action: _,
             nodes,
-        } => {
-            let words = 2 * nodes;
-            let next = depth + 1;
-            if next < actions {
-                let at = frame::base_at(room, next);
-                frame::enter(work, at, room, &out[..words]);
-                return Turned::On(next);
-            }
-            Turned::Made(words)
-        }
+        } => descend(2 * nodes, actions, room, depth, out, work),
     }
 }
 
@@ -118,7 +137,7 @@ fn go_on(
     requires { ⌜ Room (now table) (now index) rules room (now log) (now out) (now work) ⌝ }
     requires { ⌜ (depth < length (now log)) × (position < rules) ⌝ }
     requires { ⌜ Sought (tableOf (now table)) rules (getD (now log) depth 0) (positionAt room (now work) depth) position ⌝ }
-    requires { ⌜ Sound rules room (now work) depth ⌝ }
+    requires { ⌜ Sound rules room (length (now log)) (now work) depth ⌝ }
     ensures { λ r. ⌜ TurnContract (now (table .entry)) rules room (now (log .entry)) depth (now (out .entry)) (now (work .entry)) (now (out .exit)) (now (work .exit)) r ⌝ }
 {
     let at = frame::base_at(room, depth);
@@ -140,7 +159,7 @@ fn turn(
 ) -> Turned
     requires { ⌜ Room (now table) (now index) rules room (now log) (now out) (now work) ⌝ }
     requires { ⌜ depth < length (now log) ⌝ }
-    requires { ⌜ Sound rules room (now work) depth ⌝ }
+    requires { ⌜ Sound rules room (length (now log)) (now work) depth ⌝ }
     ensures { λ r. ⌜ TurnContract (now (table .entry)) rules room (now (log .entry)) depth (now (out .entry)) (now (work .entry)) (now (out .exit)) (now (work .exit)) r ⌝ }
 {
     let at = frame::base_at(room, depth);
@@ -167,7 +186,8 @@ pub fn find(
 ) -> Found
     requires { ⌜ Room (now table) (now index) rules room (now log) (now out) (now work) ⌝ }
     requires { ⌜ 0 < length (now log) ⌝ }
-    requires { ⌜ Sound rules room (now work) 0 ⌝ }
+    requires { ⌜ Sound rules room (length (now log)) (now work) 0 ⌝ }
+    requires { ⌜ MemoryOf (tableOf (now table)) room (now log) (now work) false 0 ⌝ }
     ensures { λ r. ⌜ SearchContract (now (table .entry)) rules room (now (log .entry)) (now (out .entry)) (now (work .entry)) (now (out .exit)) (now (work .exit)) r ⌝ }
 {
     let mut depth = 0;

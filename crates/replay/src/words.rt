@@ -1,5 +1,6 @@
 // Words of a slice: a number read and stored, a copy, and zeros.
 ghost use mathlib.Core.Path.{_≡_};
+ghost use mathlib.Core.Bool.{true};
 ghost use Prim.Native.Nat.{_+_, _^_, _≤_, _<_};
 ghost use lib.Dec.{T};
 ghost use lib.IntN.{pos};
@@ -47,4 +48,21 @@ pub fn clear(words: &mut [i64], count: usize)
         words[i] = 0;
         i += 1;
     }
+}
+
+// Whether two slices hold the same words: lengths first.
+pub fn same(a: &[i64], b: &[i64]) -> bool
+    ensures { λ r. ⌜ (r ≡ true → now (a .entry) ≡ now (b .entry)) ⌝ }
+{
+    if a.len() != b.len() {
+        return false;
+    }
+    let mut i = 0;
+    while i < a.len() {
+        if a[i] != b[i] {
+            return false;
+        }
+        i += 1;
+    }
+    true
 }

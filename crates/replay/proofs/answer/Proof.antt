@@ -4,19 +4,13 @@ use mathlib.Core.List.{List}
 use Prim.Native.Nat.{ℕ, _+_, _<_}
 use native.Mathlib.Omega.{arith}
 use lib.IntN.{ℤ}
-use lib.ListN.{length, take}
-use lib.Seq.{paste}
+use lib.ListN.{length}
 use Rattle.minuska.specs.Slice.{writeZeros}
-use Rattle.replay.specs.Layout.{base, entered}
-use Rattle.replay.specs.Turns.{SearchContract}
-use Rattle.replay.proofs.EndLaw.{answer-empty, opened-room, opened-sound, end-within, end-room, answered}
+use Rattle.replay.specs.Endings.{SetsUp}
+use Rattle.replay.proofs.EndLaw.{answer-empty, opened-room, opened-sound, opened-memory, end-within, end-room, answered}
 use borrow.Author.Needs.{needs}
 use Rattle.replay.proofs.answer.Statement.{statement}
 use Rattle.replay.proofs.answer.Tie as tie
-
--- the work area once the initial configuration is entered
-opened : tie.Start → List ℤ
-opened s = let a = s .args in entered (a .room) (paste (a .work .now) (base (a .room) (length (a .log .now))) (take (a .room) (a .out .now)) (a .room)) 0 (a .configuration .now)
 
 some : (e : tie.Else1) → 0 < length (e .before .before .before .before .args .log .now)
 some e = omega (arith, e .if1 .left)
@@ -53,38 +47,37 @@ returns c =
 set-up-requires : tie.Need-set-up-requires
 set-up-requires c κs = search needs
 
-entered-is : (c : tie.After-set-up) → c .set-up .last .0 ≡ opened (c .before .before .before .before .before .before .before)
-unfolding opened
-entered-is c = rw (c .before .before .before .before .base-at .ensures) at (c .set-up .ensures)
+-- what is set up, for the log's own length
+up : (c : tie.After-set-up) → let a = c .before .before .before .before .before .before .before .args in SetsUp (a .room) (length (a .log .now)) (a .configuration .now) (a .out .now) (a .work .now) (c .set-up .last .0)
+up c = c .set-up .ensures
 
 find-requires : tie.Need-find-requires
-unfolding opened
 find-requires c κs =
     let u = c .before .before .before in
     let e = u .before .before .before in
     let s = e .before .before .before .before in
     let a = s .args in
-    let p = s .pre in
-    rw (entered-is u) (opened-room (a .table .now) (a .index .now) (a .rules) (a .room) (a .configuration .now) (a .log .now) (a .out .now) (a .work .now) (p .0) (p .1 .0 .0) (some e) (p .1 .1), (some e, opened-sound (a .table .now) (a .index .now) (a .rules) (a .room) (a .configuration .now) (a .log .now) (a .out .now) (a .work .now) (p .0) (p .1 .0 .0) (some e) (p .1 .1)))
-
--- what the search finds, from there on
-found : (c : tie.After-find) → let s = c .before .before .before .before .before .before .before .before .before .before .before in let a = s .args in
-    SearchContract (a .table .now) (a .rules) (a .room) (a .log .now) (a .out .now) (opened s) (c .find .last .1 .1 .1 .1 .1 .0) (c .find .last .1 .1 .1 .1 .1 .1 .0) (c .find .result)
-found c =
-    let u = c .before .before .before .before in
-    rw (entered-is u) at (c .find .ensures)
+    let p = s .pre in (
+      opened-room (a .table .now) (a .index .now) (a .rules) (a .room) (a .configuration .now) (a .log .now) (a .out .now) (a .work .now) (p .0) (p .1 .0 .0) (some e) (p .1 .1) _ (up u),
+      (
+        some e,
+        (
+          opened-sound (a .table .now) (a .index .now) (a .rules) (a .room) (a .configuration .now) (a .log .now) (a .out .now) (a .work .now) (p .0) (p .1 .0 .0) (some e) (p .1 .1) _ (up u),
+          opened-memory (a .table .now) (a .index .now) (a .rules) (a .room) (a .configuration .now) (a .log .now) (a .out .now) (a .work .now) (p .0) (p .1 .0 .0) (some e) (p .1 .1) _ (up u),
+        ),
+      ),
+    )
 
 conclude-requires : tie.Need-conclude-requires
-unfolding opened
 conclude-requires c κs =
     let h = c .before .before .before .before .before in
-    let e = h .before .before .before .before .before .before .before in
+    let u = h .before .before .before .before in
+    let e = u .before .before .before in
     let s = e .before .before .before .before in
     let a = s .args in
     let p = s .pre in
-    let f = found h in
-    let r = end-room (a .table .now) (a .index .now) (a .rules) (a .room) (a .configuration .now) (a .log .now) (a .out .now) (a .work .now) (p .0) (p .1 .0 .0) (some e) (p .1 .1) (h .find .result) _ _ f in
-    (p .0 .indexed, ((r .0, r .1, p .0 .narrow, p .1 .0 .1), end-within (a .table .now) (a .index .now) (a .rules) (a .room) (a .configuration .now) (a .log .now) (a .out .now) (a .work .now) (p .0) (p .1 .0 .0) (some e) (p .1 .1) (h .find .result) _ _ f))
+    let r = end-room (a .table .now) (a .index .now) (a .rules) (a .room) (a .configuration .now) (a .log .now) (a .out .now) (a .work .now) (p .0) (p .1 .0 .0) (some e) (p .1 .1) _ (up u) (h .find .result) _ _ (h .find .ensures) in
+    (p .0 .indexed, ((r .0, r .1, p .0 .narrow, p .1 .0 .1), end-within (a .table .now) (a .index .now) (a .rules) (a .room) (a .configuration .now) (a .log .now) (a .out .now) (a .work .now) (p .0) (p .1 .0 .0) (some e) (p .1 .1) _ (up u) (h .find .result) _ _ (h .find .ensures)))
 
 same-length-3 : tie.Need-same-length-3
 same-length-3 c = search needs
@@ -96,15 +89,15 @@ same-length-5 : tie.Need-same-length-5
 same-length-5 c = search needs
 
 returns-2 : tie.Need-returns-2
-unfolding opened
 returns-2 c =
     let k = c .before .before .before .before in
     let h = k .before .before .before .before .before .before in
-    let e = h .before .before .before .before .before .before .before in
+    let u = h .before .before .before .before in
+    let e = u .before .before .before in
     let s = e .before .before .before .before in
     let a = s .args in
     let p = s .pre in
-    answered (a .table .now) (a .index .now) (a .rules) (a .room) (a .configuration .now) (a .log .now) (a .out .now) (a .work .now) (p .0) (p .1 .0 .0) (some e) (p .1 .1) (h .find .result) _ _ (found h) (a .choices .now) _ _ _ _ (k .conclude .ensures)
+    answered (a .table .now) (a .index .now) (a .rules) (a .room) (a .configuration .now) (a .log .now) (a .out .now) (a .work .now) (p .0) (p .1 .0 .0) (some e) (p .1 .1) _ (up u) (h .find .result) _ _ (h .find .ensures) (a .choices .now) _ _ _ _ (k .conclude .ensures)
 
 pub answer-spec : {M : Type 1} → statement M
 answer-spec =

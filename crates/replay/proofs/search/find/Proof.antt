@@ -21,7 +21,7 @@ loop-holds : tie.Need-loop-holds Inv-loop μ-loop
 loop-holds c =
     let a = c .before .args in
     let p = c .before .pre in
-    find-start (a .table .now) (a .index .now) (a .rules) (a .room) (a .log .now) (a .out .now) (a .work .now) (p .0) (p .1 .0) (p .1 .1)
+    find-start (a .table .now) (a .index .now) (a .rules) (a .room) (a .log .now) (a .out .now) (a .work .now) (p .0) (p .1 .0) (p .1 .1 .0) (p .1 .1 .1)
 
 turn-requires : tie.Need-turn-requires Inv-loop μ-loop
 turn-requires c κs = let v = c .before .before .loop .inv in (v .fits, (v .deep, v .sound))

@@ -7,7 +7,7 @@ use Rattle.minuska.specs.Computed.Step.{order}
 use Rattle.replay.specs.Reading.{tableOf}
 use Rattle.replay.specs.Layout.{base, wordsOf}
 use Rattle.replay.specs.Turns.{TryContract}
-use Rattle.replay.proofs.TurnLaw.{frame-fits, turned, made-within}
+use Rattle.replay.proofs.TurnLaw.{frame-fits, turned, made-within, spare-within}
 use borrow.Author.Needs.{needs}
 use Rattle.replay.proofs.search.go_on.Statement.{statement}
 use Rattle.replay.proofs.search.go_on.Tie as tie
@@ -52,8 +52,11 @@ settle-requires c κs =
     let p = s .pre in
     let e : length (c .before .before .before .set-position .last .0) ≡ length (a .work .now) = c .before .before .before .set-position .kept .0 in (
       (p .1 .0 .0, omega (arith, e, p .0 .work-fits), p .0 .narrow),
-      made-within (a .table .now) (a .index .now) (a .rules) (a .room) (a .log .now) (a .out .now) (a .work .now) (a .depth) (p .0) (p .1 .0 .0) (p .1 .1 .1) (a .position) (p .1 .1 .0) (p .1 .0 .1)
-          (k .try-at .last .1 .1 .1 .1 .1 .0) (k .try-at .result) (tried k),
+      (
+        made-within (a .table .now) (a .index .now) (a .rules) (a .room) (a .log .now) (a .out .now) (a .work .now) (a .depth) (p .0) (p .1 .0 .0) (p .1 .1 .1) (a .position) (p .1 .1 .0) (p .1 .0 .1)
+            (k .try-at .last .1 .1 .1 .1 .1 .0) (k .try-at .result) (tried k),
+        rw (c .before .before .before .set-position .ensures, k .before .before .before .base-at .ensures) (spare-within (a .table .now) (a .index .now) (a .rules) (a .room) (a .log .now) (a .out .now) (a .work .now) (a .depth) (p .0) (p .1 .0 .0) (p .1 .1 .1) (a .position) (p .1 .1 .0) (p .1 .0 .1)),
+      ),
     )
 
 same-length : tie.Need-same-length
@@ -68,9 +71,8 @@ returns c =
     let s = k .before .before .before .before .before in
     let a = s .args in
     let p = s .pre in
-    rw (c .before .settle .ensures .1, c .before .settle .ensures .0, c .before .before .before .before .before .set-position .ensures, k .before .before .before .base-at .ensures)
-    (turned (a .table .now) (a .index .now) (a .rules) (a .room) (a .log .now) (a .out .now) (a .work .now) (a .depth) (p .0) (p .1 .0 .0) (p .1 .1 .1) (a .position) (p .1 .1 .0) (p .1 .0 .1)
-    (k .try-at .last .1 .1 .1 .1 .1 .0) (k .try-at .result) (tried k))
+    turned (a .table .now) (a .index .now) (a .rules) (a .room) (a .log .now) (a .out .now) (a .work .now) (a .depth) (p .0) (p .1 .0 .0) (p .1 .1 .1) (a .position) (p .1 .1 .0) (p .1 .0 .1)
+    (k .try-at .last .1 .1 .1 .1 .1 .0) (k .try-at .result) (tried k) _ _ (rw (c .before .before .before .before .before .set-position .ensures, k .before .before .before .base-at .ensures) at (c .before .settle .ensures))
 
 pub go-on-spec : {M : Type 1} → statement M
 go-on-spec =
