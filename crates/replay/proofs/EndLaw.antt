@@ -1,6 +1,7 @@
 -- Before and after the search: what the slices hold once the initial configuration is entered, and once the answer is written.
 use mathlib.Core.Path.{_≡_, refl, ap, ap₂, sym, _∙_, subst, subst⁻¹}
 use mathlib.Core.Bool.{false}
+use mathlib.Core.Logic.{inl, inr}
 use mathlib.Core.List.{List, [], _∷_, _++_, append-assoc}
 use Prim.Native.Nat.{ℕ, _+_, _-_, _≤_, _<_}
 use native.Mathlib.Nat.{zero-mul}
@@ -122,13 +123,18 @@ module _ (ws : List ℤ) (index : List ℕ) (rules room : ℕ) (cs : List ℤ) (
     pub opened-memory : MemoryOf t room log opened false 0
     opened-memory =
         recalls-start nodeCount (outLimit room) (next t) (order t) log (Held room (length log) opened 0) (termAt room opened) (positionAt room opened)
-        (λ i u h. none-held i u (in-held-after i u h)) (ent .position) false
+        (λ i u h. none-held i u h) (ent .position) false
       where
-        in-held-after : (i : ℕ) (u : Term) → Held room (length log) opened 0 i u → Held room (length log) work₁ 0 i u
-        in-held-after i u h = entered-held rules room (length log) work₁ opened 0 cs small ent none-below i u (empty-spare room work₁ (base room i) (up .forgets .empty i (h .1))) h
+        before : (i : ℕ) (u : Term) → 0 < i → Held room (length log) opened 0 i u → Held room (length log) work₁ 0 i u
+        before i u l h = entered-held rules room (length log) work₁ opened 0 cs small ent none-below 0 i u (omega arith) (λ e. let f : ⊥ = omega arith in f) (λ k. empty-spare room work₁ (base room i) (up .forgets .empty i k)) h
 
-        none-held : (i : ℕ) (u : Term) → Held room (length log) work₁ 0 i u → ⊥
-        none-held i u h = let e = empty-length room work₁ (base room i) (up .forgets .empty i (h .1)) in let k = h .2 in omega arith
+        none-there : (i : ℕ) (u : Term) → Held room (length log) work₁ 0 i u → ⊥
+        none-there i u (inl h) = let e = empty-length room work₁ (base room i) (up .forgets .empty i (h .1)) in let k = h .2 in omega arith
+        none-there i u (inr h) = let l : i < length log = omega (arith, h .2) in let e = empty-length room work₁ (base room i) (up .forgets .empty i l) in let k = h .3 .some in omega arith
+
+        none-held : (i : ℕ) (u : Term) → Held room (length log) opened 0 i u → ⊥
+        none-held i u (inl h) = none-there i u (before i u (h .0) (inl h))
+        none-held i u (inr h) = none-there i u (before i u (h .1) (inr h))
 
     opened-state : stateOf t room log opened false 0 ≡ replay t (outLimit room) log (termOf cs)
     unfolding stateOf

@@ -12,6 +12,8 @@ use Rattle.replay.specs.Reading.{termOf}
 use Rattle.minuska.specs.Term.{Term}
 use Rattle.replay.specs.Layout.{base, lengthOf, positionOf, wordsOf, Spare, advanced, Enters}
 use Rattle.replay.specs.Turns.{termAt, positionAt, Framed, Sound, Held}
+use Rattle.replay.specs.Memory.{Entry, Old, Keeps}
+use Rattle.replay.proofs.MemoryLaw.{still-entry}
 use Rattle.replay.proofs.LayoutLaw.{frame-before, position-same, length-same, counted-same, words-same, word-below, word-behind, drop-later, still-length, still-words, still-spare, advanced-long, advanced-below, advanced-other, advanced-position, advanced-counted}
 
 -- ---- below what was written
@@ -32,14 +34,16 @@ module _ (rules room : ℕ) (w w′ : List ℤ) (lo : ℕ) (same : take lo w′ 
       }
 
 -- ---- what is held for a depth, where its frame stands as it was
-held-still : (room m : ℕ) (w w′ : List ℤ) (d e i : ℕ) (u : Term) → d ≤ e → length w′ ≡ length w → ((j : ℕ) → base room i ≤ j → j < base room i + (room + 1) → getD w′ j (pos 0) ≡ getD w j (pos 0)) → Spare room w (base room i)
-    → Held room m w′ e i u → Held room m w d i u
-held-still room m w w′ d e i u le long same s h = (
-  omega (arith, h .0),
-  h .1,
-  subst (λ (k : ℕ). 0 < k) (still-length room w w′ (base room i) long same) (h .2),
-  ap termOf (sym (still-words room w w′ (base room i) long same (s .long))) ∙ h .3,
-)
+module _ (room m : ℕ) (w w′ : List ℤ) (d e i : ℕ) (u : Term) (le : d ≤ e) (long : length w′ ≡ length w) (same : (j : ℕ) → base room i ≤ j → j < base room i + (room + 1) → getD w′ j (pos 0) ≡ getD w j (pos 0)) (sp : i < m → Spare room w (base room i)) where
+  held-still : Held room m w′ e i u → Held room m w d i u
+  held-still (inl h) =
+      inl (
+        omega (arith, h .0),
+        h .1,
+        subst (λ (k : ℕ). 0 < k) (still-length room w w′ (base room i) long same) (h .2),
+        ap termOf (sym (still-words room w w′ (base room i) long same (sp (h .1) .long))) ∙ h .3,
+      )
+  held-still (inr h) = inr (h .0, h .1, h .2, still-entry room w w′ (base room i) long same (h .0) (h .3), h .4)
 
 -- ---- the frame at depth d goes on to a position
 module _ (rules room m : ℕ) (w : List ℤ) (d p : ℕ) (fits : base room d + (room + 2) ≤ length w) (s : Sound rules room m w d) where
@@ -92,7 +96,7 @@ module _ (rules room m : ℕ) (w : List ℤ) (d p : ℕ) (fits : base room d + (
 
   pub on-held : (i : ℕ) (u : Term) → Held room m (advanced room w (base room d) p) d i u → Held room m w d i u
   unfolding w₁
-  on-held i u h = held-still room m w w₁ d d i u (omega arith) long₁ (frame₁ i) (s .spare i (h .1)) h
+  on-held i u h = held-still room m w w₁ d d i u (omega arith) long₁ (frame₁ i) (s .spare i) h
 
   pub on-sound : p ≤ rules → Sound rules room m (advanced room w (base room d) p) d
   unfolding w₁
@@ -131,11 +135,28 @@ module _ (rules room m : ℕ) (w w′ : List ℤ) (j : ℕ) (c : List ℤ) (smal
       side (no h) (yes x) = word-behind w w′ (base room j + (room + 2)) (ent .behind) k (omega (arith, frame-before room j i x))
       side (no h) (no x) = absurd (n (omega arith))
 
-  pub entered-held : (i : ℕ) (u : Term) → Spare room w (base room i) → Held room m w′ j i u → Held room m w j i u
-  entered-held i u sp h = held-still room m w w′ j j i u (omega arith) (ent .wide) (frame₂ i (λ e. let f : ⊥ = omega (arith, h .0) in f)) sp h
+  -- held for another depth, it was held
+  pub entered-held : (d i : ℕ) (u : Term) → d ≤ j → (i ≡ j → ⊥) → (i < m → Spare room w (base room i)) → Held room m w′ j i u → Held room m w d i u
+  entered-held d i u le n sp h = held-still room m w w′ d j i u le (ent .wide) (frame₂ i n) sp h
 
-  pub in-held : ((i : ℕ) → i < m → Spare room w (base room i)) → (d i : ℕ) (u : Term) → d < j → Held room m w′ j i u → Held room m w d i u
-  in-held sp d i u l h = let k = entered-held i u (sp i (h .1)) h in (omega (arith, k .0), k .1, k .2, k .3)
+  -- held for this one, it was held, or stood in the frame
+  pub in-held : ((i : ℕ) → i < m → Spare room w (base room i)) → (j + 2 < m → Keeps room w w′ (base room j)) → (d i : ℕ) (u : Term) → d < j → Held room m w′ j i u → Held room m w d i u
+  in-held sp ks d i u l h = side (decLt i j) (decLt j i) h
+    where
+      this : (i : ℕ) → j ≡ i → Held room m w′ j i u → Held room m w d i u
+      this i e (inl h) = absurd (let f : ⊥ = omega (arith, h .0) in f)
+      this i e (inr h) =
+          let old = ks (omega (arith, h .2)) (h .0) (subst⁻¹ (λ (x : ℕ). Entry room w′ (base room x) (h .0)) e (h .3)) in
+          subst (λ (x : ℕ). Held room m w d x u) e (from old)
+        where
+          from : Old room w (base room j) (h .0) → Held room m w d j u
+          from (inl f) = inr (h .0, omega arith, omega (arith, h .2), f, h .4)
+          from (inr f) = inl (l, omega (arith, h .2), f .0, ap termOf (sym (f .1)) ∙ h .4)
+
+      side : Dec (i < j) → Dec (j < i) → Held room m w′ j i u → Held room m w d i u
+      side (yes q) x k = entered-held d i u (omega arith) (λ e. let f : ⊥ = omega arith in f) (sp i) k
+      side (no q) (yes x) k = entered-held d i u (omega arith) (λ e. let f : ⊥ = omega arith in f) (sp i) k
+      side (no q) (no x) k = this i (omega arith) k
 
   pub in-sound : Accepted c → ((i : ℕ) → i < j → 0 < positionAt room w i) → ((i : ℕ) → i < m → (i ≡ j → ⊥) → Spare room w (base room i)) → Sound rules room m w′ j
   in-sound acc beg sp = record { frames = λ i k. at i k (decLt i j); begun = λ i k. subst⁻¹ (λ (x : ℕ). 0 < x) (in-positions i k) (beg i k); spare = λ i k. spares i k (decLt i j) (decLt j i) }
@@ -167,10 +188,11 @@ module _ (rules room m : ℕ) (w w′ : List ℤ) (j : ℕ) (c : List ℤ) (smal
 
 -- back from depth d: its configuration is held
 pub back-held : (room m : ℕ) (w : List ℤ) (d i : ℕ) (u : Term) → Held room m w d i u → Held room m w (suc d) i u ⊎ ((suc d ≡ i) × (termAt room w (suc d) ≡ u))
-back-held room m w d i u h = at (decLt (suc d) i)
+back-held room m w d i u (inl h) = at (decLt (suc d) i)
   where
     at : Dec (suc d < i) → Held room m w (suc d) i u ⊎ ((suc d ≡ i) × (termAt room w (suc d) ≡ u))
-    at (yes k) = inl (k, h .1, h .2, h .3)
+    at (yes k) = inl (inl (k, h .1, h .2, h .3))
     at (no k) =
         let e : suc d ≡ i = omega (arith, h .0) in
         inr (e, subst⁻¹ (λ (x : ℕ). termAt room w x ≡ u) e (h .3))
+back-held room m w d i u (inr h) = inl (inr h)

@@ -9,7 +9,7 @@ use lib.IntN.{ℤ, pos}
 use lib.ListN.{length, getD, take, drop, set, length-set}
 use lib.Seq.{paste, length-paste, getD-take, getD-drop, getD-set-other, getD-set-same, length-take-le, take-length, take-at, drop-at, take-take, drop-drop, drop-set-lt, take-set-le, drop-paste}
 use lib.Signed.{nonNeg}
-use Rattle.replay.specs.Layout.{natOf, base, lengthOf, positionOf, wordsOf, Counted, Spare, advanced, entered, Enters, Known}
+use Rattle.replay.specs.Layout.{natOf, base, lengthOf, positionOf, wordsOf, Counted, Spare, advanced, entered, Enters}
 
 -- a frame ends before a later one begins
 pub frame-before : (room i j : ℕ) → i < j → base room i + (room + 2) ≤ base room j
@@ -28,7 +28,7 @@ drop-later a m x y e h =
     ap (λ (k : ℕ). drop k x) (sym z) ∙ sym (drop-drop (m - a) a x) ∙ ap (drop (m - a)) e ∙ drop-drop (m - a) a y ∙ ap (λ (k : ℕ). drop k y) z
 
 -- words that are the same one by one
-front-same : (n : ℕ) (w w′ : List ℤ) → length w′ ≡ length w → ((j : ℕ) → j < n → getD w′ j (pos 0) ≡ getD w j (pos 0)) → take n w′ ≡ take n w
+pub front-same : (n : ℕ) (w w′ : List ℤ) → length w′ ≡ length w → ((j : ℕ) → j < n → getD w′ j (pos 0) ≡ getD w j (pos 0)) → take n w′ ≡ take n w
 front-same zero w w′ e f = refl
 front-same (suc n) [] [] e f = refl
 front-same (suc n) [] (y ∷ w′) e f = absurd (let g : ⊥ = omega arith in g)
@@ -55,9 +55,27 @@ take-some zero l h = h
 take-some (suc n) l h = omega arith
 
 -- words that stand in a frame are a configuration's, not none
-pub known-own : (room : ℕ) (w : List ℤ) (at : ℕ) (c : List ℤ) → 0 < length c → wordsOf room w at ≡ c → Known room w at c
+pub own-some : (room : ℕ) (w : List ℤ) (at : ℕ) (c : List ℤ) → 0 < length c → wordsOf room w at ≡ c → 0 < lengthOf room w at
 unfolding wordsOf
-known-own room w at c h e = (take-some (lengthOf room w at) (drop at w) (subst⁻¹ (λ (l : List ℤ). 0 < length l) e h), e)
+own-some room w at c h e = take-some (lengthOf room w at) (drop at w) (subst⁻¹ (λ (l : List ℤ). 0 < length l) e h)
+
+-- ---- a copy: what it leaves, and what stands there
+module _ (w : List ℤ) (at : ℕ) (s : List ℤ) (n : ℕ) (fits : at + n ≤ length w) (long : n ≤ length s) where
+  paste-front : take at (paste w at s n) ≡ take at w
+  paste-front =
+      ap (take at) (append-assoc (take at w) (take n s) (drop (at + n) w)) ∙ take-at (take at w) (take n s ++ drop (at + n) w) at (length-take-le at w (omega arith))
+
+  pub paste-below : (j : ℕ) → j < at → getD (paste w at s n) j (pos 0) ≡ getD w j (pos 0)
+  paste-below j h = word-below w (paste w at s n) at paste-front j h
+
+  pub paste-behind : (j : ℕ) → at + n ≤ j → getD (paste w at s n) j (pos 0) ≡ getD w j (pos 0)
+  paste-behind j h = word-behind w (paste w at s n) (at + n) (drop-paste w at s n (omega arith) long) j h
+
+  pub paste-there : take n (drop at (paste w at s n)) ≡ take n s
+  paste-there =
+      ap (λ (l : List ℤ). take n (drop at l)) (append-assoc (take at w) (take n s) (drop (at + n) w))
+      ∙ ap (take n) (drop-at (take at w) (take n s ++ drop (at + n) w) at (length-take-le at w (omega arith)))
+      ∙ take-at (take n s) (drop (at + n) w) n (length-take-le n s long)
 
 -- ---- a frame whose length is no configuration's
 module _ (room : ℕ) (w : List ℤ) (at : ℕ) (e : getD w (at + room) (pos 0) ≡ pos 0) where
@@ -214,6 +232,14 @@ module _ (room : ℕ) (w : List ℤ) (at : ℕ) (c : List ℤ) (fits : at + (roo
       ∙ ap (λ (l : List ℤ). take (length c) (drop at l)) pasted-is
       ∙ ap (take (length c)) (drop-at (take at w) (c ++ drop (at + length c) w) at (length-take-le at w (omega arith)))
       ∙ take-at c (drop (at + length c) w) (length c) refl
+
+  -- the words behind the configuration
+  pub entered-other : (j : ℕ) → at + length c ≤ j → j < at + room → getD (entered room w at c) j (pos 0) ≡ getD w j (pos 0)
+  unfolding entered sized pasted advanced
+  entered-other j h k =
+      getD-set-other sized (at + room + 1) j (pos 0) (pos 0) (omega arith)
+      ∙ getD-set-other pasted (at + room) j (pos (length c)) (pos 0) (omega arith)
+      ∙ paste-behind w at c (length c) (omega arith) (omega arith) j h
 
   pub enters : Enters room w (entered room w at c) at c
   enters = record { wide = entered-long; below = entered-below; behind = entered-behind (at + (room + 2)) (omega arith); counted = entered-counted; long = entered-length; words = entered-words; position = entered-position }

@@ -2,6 +2,8 @@ pub mod ReadingLaw
 pub mod StackLaw
 pub mod RecallLaw
 pub mod LayoutLaw
+pub mod MemoryLaw
+pub mod PutLaw
 pub mod SeekLaw
 pub mod ToldLaw
 pub mod FrameLaw

@@ -8,10 +8,10 @@ use Prim.Native.Nat.{ℕ, suc, _+_, _*_, _≤_, _<_}
 use native.Mathlib.Numerals.{add-one}
 use native.Mathlib.Omega.{arith}
 use native.Mathlib.Decide.{decLt}
-use lib.Dec.{leb}
+use lib.Dec.{leb, ltb}
 use lib.IntN.{ℤ}
 use lib.ListN.{length, getD, take, drop}
-use borrow.Author.Tests.{leb-true}
+use borrow.Author.Tests.{leb-true, ltb-true}
 use Rattle.minuska.specs.Term.{Term, single, nodeCount}
 use Rattle.minuska.specs.Word.{encode}
 use Rattle.minuska.specs.Rule.{Table, IsTable, IsConfiguration}
@@ -25,7 +25,8 @@ use Rattle.minuska.proofs.ReplayLaw.{next-iff}
 use Rattle.replay.specs.declared.search.Turned.{Turned}
 use Rattle.replay.specs.declared.search.Turned.the-variants.{On, Beyond, Made, Ended}
 use Rattle.replay.specs.Reading.{tableOf, termOf}
-use Rattle.replay.specs.Layout.{base, wordsOf, Spare, advanced, Enters, Known}
+use Rattle.replay.specs.Layout.{base, wordsOf, Spare, advanced, Enters}
+use Rattle.replay.specs.Memory.{Keeps, Known}
 use Rattle.replay.specs.Stack.{mark, chosen, rest}
 use Rattle.replay.specs.Turns.{termAt, positionAt, Framed, Begun, Sound, Held, stateOf, leftOf, Room, Kept, Sought, TryContract, MadeWithin, Settles, Same, TurnSays, TurnContract}
 use Rattle.replay.proofs.ReadingLaw.{term-of, is-table, is-term}
@@ -201,10 +202,14 @@ module _ (ws : List ℤ) (index : List ℕ) (rules room : ℕ) (log : List ℕ) 
               c = take (2 * n) out′
 
               -- it is known
-              turned-known : Known room work₁ (base room (suc d)) c → TurnSays t rules room log d work out′ work₁ (On d)
+              known-held : Known room work₁ (base room (suc d)) (ltb (d + 3) (length log)) c → Held room (length log) work₁ d (suc d) h
+              known-held (inl k) = inl (omega arith, l, k .0, ap termOf (k .1) ∙ term-of c h is)
+              known-held (inr k) = let x = ltb-true (d + 3) (length log) (k .0) in inr (c, omega arith, omega arith, k .1, term-of c h is)
+
+              turned-known : Known room work₁ (base room (suc d)) (ltb (d + 3) (length log)) c → TurnSays t rules room log d work out′ work₁ (On d)
               unfolding stateOf leftOf
               turned-known k =
-                  let own : Held room (length log) work₁ d (suc d) h = (omega arith, l, k .0, ap termOf (k .1) ∙ term-of c h is) in
+                  let own : Held room (length log) work₁ d (suc d) h = known-held k in
                   let try = Stack.attempted nodeCount (outLimit room) (next t) (order t) log term (termAt room work₁) position (positionAt room work₁) d q tries₁ h true (gives (some h) e) fit in (
                     deep,
                     sound₁,
@@ -216,7 +221,7 @@ module _ (ws : List ℤ) (index : List ℕ) (rules room : ℕ) (log : List ℕ) 
                   )
 
               -- it is entered
-              module _ (work₂ : List ℤ) (ent : Enters room work₁ work₂ (base room (suc d)) c) where
+              module _ (work₂ : List ℤ) (ent : Enters room work₁ work₂ (base room (suc d)) c) (ks : d + 3 < length log → Keeps room work₁ work₂ (base room (suc d))) where
                 small : length c ≤ room
                 small = omega (arith, ap length front, term-length h, few)
 
@@ -230,7 +235,7 @@ module _ (ws : List ℤ) (index : List ℕ) (rules room : ℕ) (log : List ℕ) 
                 top₂ = in-top rules room (length log) work₁ work₂ (suc d) c small ent frames₁ ∙ term-of c h is
 
                 held₂ : (i : ℕ) (u : Term) → Held room (length log) work₂ (suc d) i u → Held room (length log) work d i u
-                held₂ i u k = held₁ i u (in-held rules room (length log) work₁ work₂ (suc d) c small ent frames₁ (sound₁ .spare) d i u (omega arith) k)
+                held₂ i u k = held₁ i u (in-held rules room (length log) work₁ work₂ (suc d) c small ent frames₁ (sound₁ .spare) (λ x. ks (omega arith)) d i u (omega arith) k)
 
                 turned-down : TurnSays t rules room log d work out′ work₂ (On (suc d))
                 unfolding stateOf leftOf
@@ -265,14 +270,15 @@ module _ (ws : List ℤ) (index : List ℕ) (rules room : ℕ) (log : List ℕ) 
         settled (S.Stepped m a n) z w r (inl k) =
             let l : suc d < length log = omega (arith, k .0) in
             let ent : Enters room work₁ w (base room (suc d)) (take (2 * n) out′) = rw (add-one d) at (k .2) in
+            let ks : d + 3 < length log → Keeps room work₁ w (base room (suc d)) = rw (add-one d) at (k .3) in
             let on : r ≡ On (suc d) = rw (add-one d) at (k .1) in
             rw on (record {
-              kept = kept w (long₂ out′ (z .told .0) (z .told .1) (z .told .2) n (z .told .3) (z .told .4) l w ent) (behind₂ out′ (z .told .0) (z .told .1) (z .told .2) n (z .told .3) (z .told .4) l w ent) (z .wide) (z .kept);
-              says = turned-down out′ (z .told .0) (z .told .1) (z .told .2) n (z .told .3) (z .told .4) l w ent;
+              kept = kept w (long₂ out′ (z .told .0) (z .told .1) (z .told .2) n (z .told .3) (z .told .4) l w ent ks) (behind₂ out′ (z .told .0) (z .told .1) (z .told .2) n (z .told .3) (z .told .4) l w ent ks) (z .wide) (z .kept);
+              says = turned-down out′ (z .told .0) (z .told .1) (z .told .2) n (z .told .3) (z .told .4) l w ent ks;
             })
         settled (S.Stepped m a n) z w r (inr (inl k)) =
             let l : suc d < length log = omega (arith, k .0) in
-            let known : Known room work₁ (base room (suc d)) (take (2 * n) out′) = rw (add-one d) at (k .3) in
+            let known : Known room work₁ (base room (suc d)) (ltb (d + 3) (length log)) (take (2 * n) out′) = rw (add-one d) at (k .3) in
             unmoved r (On d) w (k .1) (k .2) (z .wide) (z .kept) (turned-known out′ (z .told .0) (z .told .1) (z .told .2) n (z .told .3) (z .told .4) l known)
         settled (S.Stepped m a n) z w r (inr (inr k)) =
             unmoved r (Made (2 * n)) w (k .1) (k .2) (z .wide) (z .kept) (turned-made out′ (z .told .0) (z .told .1) (z .told .2) n (z .told .3) (z .told .4) (k .0))

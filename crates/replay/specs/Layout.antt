@@ -55,10 +55,6 @@ pub record Enters (room : ℕ) (work work′ : List ℤ) (at : ℕ) (c : List �
   pub words : wordsOf room work′ at ≡ c
   pub position : positionOf room work′ at ≡ 0
 
--- the memory of a frame has a configuration's words: they stand in the frame
-abbrev pub Known : ℕ → List ℤ → ℕ → List ℤ → Type 0
-Known room work at c = (0 < lengthOf room work at) × (wordsOf room work at ≡ c)
-
 -- the length of no configuration in each of the m frames
 pub record Forgets (room m : ℕ) (work work′ : List ℤ) : Type 0 where
   pub wide : length work′ ≡ length work

@@ -4,6 +4,8 @@ pub mod Reading
 pub mod Stack
 -- How a frame lies in the work area.
 pub mod Layout
+-- What a frame holds besides.
+pub mod Memory
 -- What the routines promise.
 pub mod Sizes
 pub mod Turns

@@ -71,7 +71,8 @@ fn try_at<'a>(
     step::apply_rule(table, index, configuration, rule, &mut out[..room])
 }
 
-// A successor, the first `words` words of out: it is entered, unless it is known or the last.
+// A successor, the first `words` words of out: it is entered, unless it is known or the last. A table is used where three actions are left or more: below that a
+// search is too short to pay for it.
 fn descend(
     words: usize,
     actions: usize,
@@ -88,10 +89,11 @@ fn descend(
     let next = depth + 1;
     if next < actions {
         let at = frame::base_at(room, next);
-        if memory::known(work, at, room, &out[..words]) {
+        let tabled = depth + 3 < actions;
+        if memory::known(work, at, room, tabled, &out[..words]) {
             return Turned::On(depth);
         }
-        frame::enter(work, at, room, &out[..words]);
+        memory::enter(work, at, room, tabled, &out[..words]);
         return Turned::On(next);
     }
     Turned::Made(words)

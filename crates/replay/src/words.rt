@@ -4,7 +4,7 @@ ghost use mathlib.Core.Bool.{true};
 ghost use Prim.Native.Nat.{_+_, _^_, _≤_, _<_};
 ghost use lib.Dec.{T};
 ghost use lib.IntN.{pos};
-ghost use lib.ListN.{length, getD, set};
+ghost use lib.ListN.{length, getD, take, drop, set};
 ghost use lib.Seq.{paste};
 ghost use lib.Signed.{nonNeg};
 ghost use Rattle.minuska.specs.Slice.{writeZeros};
@@ -16,6 +16,18 @@ pub fn number_at(words: &[i64], at: usize) -> usize
     ensures { λ r. ⌜ r ≡ natOf (getD (now (words .entry)) at (pos 0)) ⌝ }
 {
     let word = words[at];
+    word as usize
+}
+
+// The same of any word: 0 for one below 0.
+pub fn natural_at(words: &[i64], at: usize) -> usize
+    requires { ⌜ at < length (now words) ⌝ }
+    ensures { λ r. ⌜ r ≡ natOf (getD (now (words .entry)) at (pos 0)) ⌝ }
+{
+    let word = words[at];
+    if word < 0 {
+        return 0;
+    }
     word as usize
 }
 
@@ -34,6 +46,18 @@ pub fn copy_in(to: &mut [i64], at: usize, from: &[i64])
     let mut i = 0;
     while i < from.len() {
         to[at + i] = from[i];
+        i += 1;
+    }
+}
+
+// Copies `count` words within a slice, from `from` on to `to` on, behind them.
+pub fn copy_up(words: &mut [i64], from: usize, to: usize, count: usize)
+    requires { ⌜ (from + count ≤ to) × (to + count ≤ length (now words)) ⌝ }
+    ensures { λ _. ⌜ now (words .exit) ≡ paste (now (words .entry)) to (take count (drop from (now (words .entry)))) count ⌝ }
+{
+    let mut i = 0;
+    while i < count {
+        words[to + i] = words[from + i];
         i += 1;
     }
 }

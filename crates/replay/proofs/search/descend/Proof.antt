@@ -1,14 +1,13 @@
 -- `search::descend` meets its contract.
 use mathlib.Core.Path.{_≡_, refl, sym, subst⁻¹}
 use mathlib.Core.Logic.{inl, inr}
-use mathlib.Core.List.{List}
-use Prim.Native.Nat.{ℕ, _+_, _≤_}
+use Prim.Native.Nat.{_+_, _≤_}
 use native.Mathlib.Omega.{arith}
-use lib.IntN.{ℤ}
 use lib.ListN.{length, take}
 use lib.Seq.{length-take-le}
-use Rattle.replay.specs.Layout.{base, Spare, Enters}
-use Rattle.replay.proofs.LayoutLaw.{frame-before, enters}
+use borrow.Author.Tests.{lt-ltb}
+use Rattle.replay.specs.Layout.{base, Spare}
+use Rattle.replay.proofs.LayoutLaw.{frame-before}
 use borrow.Author.Needs.{needs}
 use Rattle.replay.proofs.search.descend.Statement.{statement}
 use Rattle.replay.proofs.search.descend.Tie as tie
@@ -25,6 +24,9 @@ long c = length-take-le (c .before .args .words) (c .before .args .out .now) (c 
 add-next : tie.Need-add-next
 add-next c = search needs
 
+add-tabled : tie.Need-add-tabled
+add-tabled c = search needs
+
 base-at-requires : tie.Need-base-at-requires
 base-at-requires c κs = (c .before .pre .0 .2, omega (arith, fits c))
 
@@ -37,6 +39,7 @@ known-requires c κs =
     let s = b .before .before in
     let a = s .args in (
       omega (arith, fits (b .before), b .base-at .ensures),
+      s .pre .0 .2,
       subst⁻¹ (Spare (a .room) (a .work .now)) (b .base-at .ensures) (s .pre .1 .1 (a .depth + 1) (b .before .if1 .taken)),
       omega (arith, long (b .before), s .pre .1 .0 .0),
     )
@@ -56,7 +59,12 @@ enter-requires : tie.Need-enter-requires
 enter-requires c κs =
     let b = c .before .before .before .before .before .before in
     let s = b .before .before in
-    (omega (arith, fits (b .before), b .base-at .ensures), omega (arith, long (b .before), s .pre .1 .0 .1), s .pre .0 .2)
+    let a = s .args in (
+      omega (arith, fits (b .before), b .base-at .ensures),
+      omega (arith, long (b .before), s .pre .1 .0 .1),
+      s .pre .0 .2,
+      subst⁻¹ (Spare (a .room) (a .work .now)) (b .base-at .ensures) (s .pre .1 .1 (a .depth + 1) (b .before .if1 .taken)),
+    )
 
 same-length-2 : tie.Need-same-length-2
 same-length-2 c = search needs
@@ -67,12 +75,7 @@ returns-2 c =
     let s = b .before .before in
     let a = s .args in
     let e = rw (b .base-at .ensures) at (c .before .enter .ensures) in
-    inl (
-      b .before .if1 .taken,
-      refl,
-      subst⁻¹ (λ (w : List ℤ). Enters (a .room) (a .work .now) w (base (a .room) (a .depth + 1)) (take (a .words) (a .out .now))) e
-          (enters (a .room) (a .work .now) (base (a .room) (a .depth + 1)) (take (a .words) (a .out .now)) (fits (b .before)) (omega (arith, long (b .before), s .pre .1 .0 .1))),
-    )
+    inl (b .before .if1 .taken, refl, e .0, λ h. e .1 (lt-ltb (a .depth + 3) (a .actions) h))
 
 returns-3 : tie.Need-returns-3
 returns-3 c = inr (inr (c .if1 .left, refl, refl))
@@ -83,6 +86,7 @@ descend-spec =
     (tie.spec
     add-next
     base-at-requires
+    add-tabled
     slice-aggregate-known
     known-requires
     same-length
