@@ -74,11 +74,30 @@ pub fn clear(words: &mut [i64], count: usize)
     }
 }
 
-// Whether two slices hold the same words: lengths first.
+// Whether two slices of one length are seen to differ in their last words.
+fn differ(a: &[i64], b: &[i64]) -> bool
+    requires { ⌜ length (now a) ≡ length (now b) ⌝ }
+{
+    let mut j = a.len();
+    let mut left = 16usize;
+    while 0 < j && 0 < left {
+        j -= 1;
+        left -= 1;
+        if a[j] != b[j] {
+            return true;
+        }
+    }
+    false
+}
+
+// Whether two slices hold the same words: lengths first, then a glance at the end, since configurations that differ mostly do so at an end.
 pub fn same(a: &[i64], b: &[i64]) -> bool
     ensures { λ r. ⌜ (r ≡ true → now (a .entry) ≡ now (b .entry)) ⌝ }
 {
     if a.len() != b.len() {
+        return false;
+    }
+    if differ(a, b) {
         return false;
     }
     let mut i = 0;

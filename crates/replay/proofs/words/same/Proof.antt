@@ -28,23 +28,29 @@ abbrev μ-loop : tie.MeasureT-loop
 returns : tie.Need-returns Inv-loop μ-loop
 returns c = λ e. absurd (true≢false (sym e))
 
-loop-holds : tie.Need-loop-holds Inv-loop μ-loop
-loop-holds c = (omega arith, c .if1 .left, λ j h. absurd (let f : ⊥ = omega arith in f))
-
-mul-if2 : tie.Need-mul-if2 Inv-loop μ-loop
-mul-if2 c = search needs
-
-shared-slice-copy-out-if2 : tie.Need-shared-slice-copy-out-if2 Inv-loop μ-loop
-shared-slice-copy-out-if2 c = search needs
-
-mul-if2-2 : tie.Need-mul-if2-2 Inv-loop μ-loop
-mul-if2-2 c = search needs
-
-shared-slice-copy-out-if2-2 : tie.Need-shared-slice-copy-out-if2-2 Inv-loop μ-loop
-shared-slice-copy-out-if2-2 c = search needs
+differ-requires : tie.Need-differ-requires Inv-loop μ-loop
+differ-requires c κs = search needs
 
 returns-2 : tie.Need-returns-2 Inv-loop μ-loop
 returns-2 c = λ e. absurd (true≢false (sym e))
+
+loop-holds : tie.Need-loop-holds Inv-loop μ-loop
+loop-holds c = (omega arith, c .before .before .if1 .left, λ j h. absurd (let f : ⊥ = omega arith in f))
+
+mul-if3 : tie.Need-mul-if3 Inv-loop μ-loop
+mul-if3 c = search needs
+
+shared-slice-copy-out-if3 : tie.Need-shared-slice-copy-out-if3 Inv-loop μ-loop
+shared-slice-copy-out-if3 c = search needs
+
+mul-if3-2 : tie.Need-mul-if3-2 Inv-loop μ-loop
+mul-if3-2 c = search needs
+
+shared-slice-copy-out-if3-2 : tie.Need-shared-slice-copy-out-if3-2 Inv-loop μ-loop
+shared-slice-copy-out-if3-2 c = search needs
+
+returns-3 : tie.Need-returns-3 Inv-loop μ-loop
+returns-3 c = λ e. absurd (true≢false (sym e))
 
 add-i : tie.Need-add-i Inv-loop μ-loop
 add-i c = omega arith
@@ -55,17 +61,17 @@ loop-less c = omega arith
 loop-again : tie.Need-loop-again Inv-loop μ-loop
 loop-again c =
     let l = c .before .before .before .before .loop in
-    let a = c .before .before .before .before .before .before .args .a .now in
-    let b = c .before .before .before .before .before .before .args .b .now in
-    let f : SFits w64 (getD a (l .i) (pos 0)) = sfits-of (c .before .before .if22 .given) in
-    let g : SFits w64 (getD b (l .i) (pos 0)) = sfits-of (c .before .if23 .given) in
-    let e : getD a (l .i) (pos 0) ≡ getD b (l .i) (pos 0) = sym (toZ-ofZ f) ∙ (ap (toZ w64) (c .if2 .left) ∙ toZ-ofZ g) in
+    let a = c .before .before .before .before .before .before .before .before .args .a .now in
+    let b = c .before .before .before .before .before .before .before .before .args .b .now in
+    let f : SFits w64 (getD a (l .i) (pos 0)) = sfits-of (c .before .before .if32 .given) in
+    let g : SFits w64 (getD b (l .i) (pos 0)) = sfits-of (c .before .if33 .given) in
+    let e : getD a (l .i) (pos 0) ≡ getD b (l .i) (pos 0) = sym (toZ-ofZ f) ∙ (ap (toZ w64) (c .if3 .left) ∙ toZ-ofZ g) in
     (omega arith, l .inv .1, λ j h. ⊎-elim (λ q. rw q e) (λ q. l .inv .2 j (omega arith)) (eq-or-lt-of-le (next-le (l .i) j h)))
 
-returns-3 : tie.Need-returns-3 Inv-loop μ-loop
-returns-3 c =
+returns-4 : tie.Need-returns-4 Inv-loop μ-loop
+returns-4 c =
     let v = c .before .loop .inv in
-    λ t. ext-getD (pos 0) (c .before .before .before .args .a .now) (c .before .before .before .args .b .now) (v .1) (λ j h. v .2 j (omega arith))
+    λ t. ext-getD (pos 0) (c .before .before .before .before .before .args .a .now) (c .before .before .before .before .before .args .b .now) (v .1) (λ j h. v .2 j (omega arith))
 
 pub same-spec : {M : Type 1} → statement M
 same-spec =
@@ -74,13 +80,15 @@ same-spec =
     Inv-loop
     μ-loop
     returns
-    loop-holds
-    mul-if2
-    shared-slice-copy-out-if2
-    mul-if2-2
-    shared-slice-copy-out-if2-2
+    differ-requires
     returns-2
+    loop-holds
+    mul-if3
+    shared-slice-copy-out-if3
+    mul-if3-2
+    shared-slice-copy-out-if3-2
+    returns-3
     add-i
     loop-less
     loop-again
-    returns-3)
+    returns-4)
