@@ -18,7 +18,8 @@ fn mixed(words: &[i64]) -> usize
     let mut mix = words.len() % 4294967296;
     let mut i = 0;
     while i < words.len() {
-        mix = (mix * 668265263 + words::natural_at(words, i) % 4294967296) % 4294967296;
+        mix = (mix + words::natural_at(words, i) % 4294967296) % 4294967296 * 668265263
+            % 4294967296;
         i += step;
     }
     mix
@@ -47,7 +48,7 @@ fn slot_at(work: &[i64], at: usize, room: usize, mix: usize, words: usize) -> us
     if slots == 0 {
         return 0;
     }
-    if slots > 64 {
+    if slots > 256 {
         return 0;
     }
     if width > room {
@@ -88,7 +89,7 @@ pub fn has(work: &[i64], at: usize, room: usize, configuration: &[i64]) -> bool
 
 // The heads of `count` slots become 0.
 fn empty(work: &mut [i64], at: usize, width: usize, count: usize)
-    requires { ⌜ (at + (count + 1) * width ≤ length (now work)) × (0 < width) × (count ≤ 64) ⌝ }
+    requires { ⌜ (at + (count + 1) * width ≤ length (now work)) × (0 < width) × (count ≤ 256) ⌝ }
     ensures { λ _. ⌜ Heads (now (work .entry)) (now (work .exit)) at width count ⌝ }
 {
     let mut slot = 1;
@@ -127,7 +128,7 @@ fn lay_out(work: &mut [i64], at: usize, room: usize, most: usize)
         words::put(work, at + room - 1, 0);
         return;
     }
-    let count = smaller(parts - 1, 64);
+    let count = smaller(parts - 1, 256);
     empty(work, at, width, count);
     words::put(work, at + room - 1, width);
     words::put(work, at + room - 2, count);

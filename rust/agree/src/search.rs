@@ -1,7 +1,8 @@
-//! A replay's search without memory, as counted work: how much there is to do for an interpreter
-//! that remembers nothing.
+//! A replay's search as counted work: how much there is to do for an interpreter that remembers
+//! nothing, and for one that looks at each configuration once.
 
 use interpreter::tree::{Table, Term};
+use std::collections::HashSet;
 
 /// What the search met.
 #[derive(Clone, Copy, Default, Debug, PartialEq, Eq)]
@@ -23,6 +24,29 @@ pub fn search(
     limit: usize,
     most: usize,
 ) -> Option<Met> {
+    count(table, initial, log, limit, most, false)
+}
+
+/// The same, and a configuration that was searched in vain at its depth is not entered again.
+pub fn search_once(
+    table: &Table,
+    initial: &Term,
+    log: &[u16],
+    limit: usize,
+    most: usize,
+) -> Option<Met> {
+    count(table, initial, log, limit, most, true)
+}
+
+fn count(
+    table: &Table,
+    initial: &Term,
+    log: &[u16],
+    limit: usize,
+    most: usize,
+    once: bool,
+) -> Option<Met> {
+    let mut in_vain: HashSet<(usize, Vec<i64>)> = HashSet::new();
     let mut met = Met::default();
     let mut path = vec![(initial.clone(), 0)];
     while let Some((configuration, next)) = path.pop() {
@@ -31,6 +55,9 @@ pub fn search(
         };
         let Some((rule, successor)) = next_successor(table, &configuration, action, next) else {
             met.backtracks += 1;
+            if once {
+                in_vain.insert((path.len(), configuration.words()));
+            }
             continue;
         };
         met.successors += 1;
@@ -40,7 +67,7 @@ pub fn search(
         path.push((configuration, rule + 1));
         if successor.size() > limit {
             met.over = true;
-        } else {
+        } else if !(once && in_vain.contains(&(path.len(), successor.words()))) {
             path.push((successor, 0));
         }
     }

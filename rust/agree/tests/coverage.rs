@@ -3,7 +3,7 @@
 use agree::call::Call;
 use agree::compare::perform;
 use agree::generate::Calls;
-use agree::search::search;
+use agree::search::{search, search_once};
 use interpreter::tree::{Label, Rule, Table, Term, Valuation, matches, value};
 use interpreter::{Routines, Tree};
 use std::collections::BTreeMap;
@@ -221,6 +221,18 @@ fn searches() {
         if log.len() > 20 {
             count("of a long log");
         }
+        let once = search_once(&table, &initial, log, *limit as usize, usize::MAX);
+        let once = once.expect("it ends");
+        assert_eq!(once.over, met.over);
+        if met.successors > once.successors {
+            count("paths meet");
+        }
+        if met.successors > 3 * once.successors {
+            count("paths meet often");
+        }
+        if met.successors > 3 * once.successors && *limit as usize > 4 * initial.size() {
+            count("paths meet often, with room");
+        }
     }
     println!("{counts:#?}");
     let wanted = [
@@ -233,6 +245,13 @@ fn searches() {
         ("not reproduced, by a long search", 20),
         ("refused 6, after going back", 100),
         ("refused 6, after going back often", 20),
+        ("reproduced, paths meet", 60),
+        ("reproduced, paths meet often", 10),
+        ("not reproduced, paths meet", 80),
+        ("not reproduced, paths meet often", 30),
+        ("not reproduced, paths meet often, with room", 8),
+        ("refused 6, paths meet", 50),
+        ("refused 6, paths meet often", 20),
     ];
     for (kind, least) in wanted {
         let count = counts.get(kind).copied().unwrap_or(0);

@@ -83,6 +83,62 @@ fn bonus_rules() -> Vec<RuleWords> {
     ]
 }
 
+/// Two rules with the same successor for the first action; the second has none that applies.
+fn diamond_rules() -> Vec<RuleWords> {
+    let count = |term| symbol(1, &[term]);
+    let tick = RuleWords::new(10, count(x()), count(call(8, &[x(), int(1)])));
+    vec![
+        tick.clone(),
+        tick,
+        RuleWords::new(20, count(int(-1)), int(0)),
+    ]
+}
+
+#[test]
+fn diamonds_as_long_as_a_log() {
+    with_small_stack(|| {
+        for (actions, limit) in [(200, 2), (200, 100), (4_096, 2), (4_096, 60)] {
+            let log = [vec![10; actions - 1], vec![20]].concat();
+            let call = replay(&diamond_rules(), symbol(1, &[int(0)]), log, limit);
+            assert_eq!(agreed(&call), Answer::Replay(Replay::NotReproduced));
+        }
+    });
+}
+
+#[test]
+fn paths_that_meet_after_two_and_three_steps() {
+    let z = || variable(2);
+    let at = |one, two, three| symbol(1, &[one, two, three]);
+    let next = |term| call(8, &[term, int(1)]);
+    let rules = |growth: Words, goal: Words| {
+        vec![
+            RuleWords::new(10, at(x(), y(), z()), at(next(x()), y(), z())),
+            RuleWords::new(10, at(x(), y(), z()), at(x(), next(y()), z())),
+            RuleWords::new(10, at(x(), y(), z()), at(x(), y(), growth)),
+            RuleWords::new(20, goal, int(0)),
+        ]
+    };
+    let counts = rules(next(z()), at(int(3), int(3), int(6)));
+    // The third rule makes the configuration larger: it takes the place of what was kept.
+    let grows = rules(symbol(2, &[z()]), at(int(6), int(6), int(0)));
+    let start = move || at(int(0), int(0), int(0));
+    with_small_stack(move || {
+        let log = |moves| [vec![10; moves], vec![20]].concat();
+        for limit in [100, 400] {
+            let found = replay(&counts, start(), log(12), limit);
+            assert_eq!(agreed(&found), Answer::Replay(Replay::Reproduced));
+            let missed = replay(&counts, start(), log(20), limit);
+            assert_eq!(agreed(&missed), Answer::Replay(Replay::NotReproduced));
+            let grown = replay(&grows, start(), log(12), limit);
+            assert_eq!(agreed(&grown), Answer::Replay(Replay::Reproduced));
+            let missed = replay(&grows, start(), log(14), limit);
+            assert_eq!(agreed(&missed), Answer::Replay(Replay::NotReproduced));
+        }
+        let over = replay(&grows, start(), log(14), 12);
+        assert_eq!(agreed(&over), Answer::Replay(Replay::OverLimit));
+    });
+}
+
 #[test]
 fn two_thousand_bonus_rounds_and_back() {
     with_small_stack(|| {

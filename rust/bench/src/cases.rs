@@ -1,7 +1,7 @@
 //! The cases: what is called, on what, and how many steps that is.
 
 use crate::rules;
-use agree::search::search;
+use agree::search::{search, search_once};
 use agree::words::{RuleWords, Words, bush, chain, int, spin_rules, symbol, table};
 use interpreter::tree::{Table, Term};
 use interpreter::{Check, Replay, Routines, Run, Step, Tuned};
@@ -28,7 +28,12 @@ pub struct Case {
     work: Words,
     /// The steps of one call, once they are known.
     steps: u64,
+    /// The successors that a replay forms which remembers nothing; `None` if they are too many.
+    all: Option<u64>,
 }
+
+/// So many successors of a replay without memory are counted.
+const COUNTED: usize = 10_000_000;
 
 impl Case {
     fn new(
@@ -53,15 +58,25 @@ impl Case {
             choices: vec![0; log_len],
             work: vec![0; (log_len + 1) * (2 * limit + 2)],
             steps: 0,
+            all: None,
         };
         case.count_steps();
         case
     }
 
-    /// The steps of one call: those of a run, the successors formed by a replay, one of a step, the
-    /// words of a check.
+    /// The steps of one call: those of a run, the successors formed by a replay that looks at each
+    /// configuration once, one of a step, the words of a check.
     pub fn steps(&self) -> u64 {
         self.steps
+    }
+
+    /// For a replay, the successors that it forms if it remembers nothing.
+    pub fn all(&self) -> String {
+        match (&self.routine, self.all) {
+            (Routine::Replay { .. }, Some(all)) => all.to_string(),
+            (Routine::Replay { .. }, None) => format!("above {COUNTED}"),
+            _ => "-".to_string(),
+        }
     }
 
     fn count_steps(&mut self) {
@@ -72,7 +87,9 @@ impl Case {
             Routine::Replay { log, .. } => {
                 let table = Table::read(&self.table).expect("a good table");
                 let (initial, _) = Term::read(&self.configuration, self.limit).expect("a term");
-                let met = search(&table, &initial, log, self.limit, usize::MAX);
+                let all = search(&table, &initial, log, self.limit, COUNTED);
+                self.all = all.map(|met| met.successors as u64);
+                let met = search_once(&table, &initial, log, self.limit, usize::MAX);
                 met.expect("it ends").successors as u64
             }
         };
@@ -216,6 +233,20 @@ fn replays() -> Vec<Case> {
         let routine = Routine::Replay { log, answer };
         Case::new(name, rules, configuration, limit, routine)
     };
+    // A log that ends in an action which nothing carries.
+    let failing = |name: &str, rules: &[RuleWords], configuration, limit, actions: usize| {
+        let log = [vec![10; actions - 1], vec![20]].concat();
+        let name = format!("replay: {name}");
+        replay(
+            &name,
+            rules,
+            configuration,
+            limit,
+            log,
+            Replay::NotReproduced,
+        )
+    };
+    let one = |number| symbol(1, &[int(number)]);
     let spins = [vec![10; 2], vec![20]].concat();
     vec![
         replay(
@@ -227,11 +258,11 @@ fn replays() -> Vec<Case> {
             Replay::Reproduced,
         ),
         replay(
-            "replay of 500 nested bonus rounds and back, none shared",
+            "replay of 1,000 nested bonus rounds and back, none shared",
             &rules::bonus(),
             int(1),
-            1_001,
-            [vec![10; 500], vec![20; 500]].concat(),
+            2_001,
+            [vec![10; 1_000], vec![20; 1_000]].concat(),
             Replay::Reproduced,
         ),
         replay(
@@ -242,13 +273,50 @@ fn replays() -> Vec<Case> {
             spins.repeat(1_000),
             Replay::Reproduced,
         ),
-        replay(
-            "replay of 17 actions, all shared, not reproduced",
+        failing("diamond of 17 actions", &rules::doubled(), one(0), 2, 17),
+        failing("diamond of 200 actions", &rules::doubled(), one(0), 2, 200),
+        failing(
+            "diamond of 200 actions, N 100",
             &rules::doubled(),
-            symbol(1, &[int(0)]),
+            one(0),
+            100,
+            200,
+        ),
+        failing(
+            "diamond of 4,096 actions",
+            &rules::doubled(),
+            one(0),
             2,
-            [vec![10; 16], vec![20]].concat(),
-            Replay::NotReproduced,
+            4_096,
+        ),
+        failing("fork of 17 actions, N 2", &rules::forks(), one(1), 2, 17),
+        failing(
+            "fork of 17 actions, N 100",
+            &rules::forks(),
+            one(1),
+            100,
+            17,
+        ),
+        failing(
+            "three counters, 12 actions, N 4",
+            &rules::lattice(),
+            symbol(1, &vec![int(0); 3]),
+            4,
+            12,
+        ),
+        failing(
+            "three counters, 12 actions, N 100",
+            &rules::lattice(),
+            symbol(1, &vec![int(0); 3]),
+            100,
+            12,
+        ),
+        failing(
+            "three counters, 30 actions, N 500",
+            &rules::lattice(),
+            symbol(1, &vec![int(0); 3]),
+            500,
+            30,
         ),
     ]
 }

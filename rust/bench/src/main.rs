@@ -27,8 +27,10 @@ const LEAST: Duration = Duration::from_millis(20);
 fn main() {
     let (rounds, names) = arguments();
     let (other, tuned) = (OTHER.name(), Tuned.name());
-    println!("| case | steps | {other}, ns a step | {tuned}, ns a step | {other}/{tuned} |");
-    println!("|---|---:|---:|---:|---:|");
+    println!(
+        "| case | steps | without memory | {other}, ns a step | {tuned}, ns a step | {other}/{tuned} |"
+    );
+    println!("|---|---:|---:|---:|---:|---:|");
     for case in cases::all() {
         if names.is_empty() || names.iter().any(|name| case.name.contains(name.as_str())) {
             measure(case, rounds);
@@ -68,9 +70,10 @@ fn measure(mut case: Case, rounds: usize) {
     }
     let per_step = best.map(|seconds| seconds * 1e9 / steps as f64);
     println!(
-        "| {} | {} | {:.1} | {:.1} | {:.2} |",
+        "| {} | {} | {} | {:.1} | {:.1} | {:.2} |",
         case.name,
         steps,
+        case.all(),
         per_step[0],
         per_step[1],
         per_step[0] / per_step[1]

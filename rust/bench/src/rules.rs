@@ -229,3 +229,30 @@ pub fn doubled() -> Vec<RuleWords> {
         RuleWords::new(20, count(int(-1)), int(0)),
     ]
 }
+
+/// `x` to `2x` and `2x + 1` by one action, and a rule that asks for what never comes: no
+/// configuration is met twice.
+pub fn forks() -> Vec<RuleWords> {
+    let count = |term| symbol(1, &[term]);
+    let twice = call(8, &[x(), x()]);
+    let more = call(8, &[twice.clone(), int(1)]);
+    vec![
+        RuleWords::new(10, count(x()), count(twice)),
+        RuleWords::new(10, count(x()), count(more)),
+        RuleWords::new(20, count(int(-1)), int(0)),
+    ]
+}
+
+/// Three counters and a rule for each, all with one action: paths that take the same steps in
+/// another order meet, after two steps and after three. A fourth asks for what never comes.
+pub fn lattice() -> Vec<RuleWords> {
+    let z = || variable(2);
+    let at = |one, two, three| symbol(1, &[one, two, three]);
+    let next = |term| call(8, &[term, int(1)]);
+    vec![
+        RuleWords::new(10, at(x(), y(), z()), at(next(x()), y(), z())),
+        RuleWords::new(10, at(x(), y(), z()), at(x(), next(y()), z())),
+        RuleWords::new(10, at(x(), y(), z()), at(x(), y(), next(z()))),
+        RuleWords::new(20, int(-1), int(0)),
+    ]
+}

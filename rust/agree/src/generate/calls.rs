@@ -6,6 +6,7 @@ use super::terms::ground;
 use super::walk::{run_sizes, searchable, walk};
 use crate::call::{Buffer, Call};
 use crate::rng::Rng;
+use crate::search::{search, search_once};
 use crate::words::Words;
 use interpreter::tree::{Table, Term};
 
@@ -270,6 +271,16 @@ impl Calls {
         }
     }
 
+    /// Whether a search that looks at each configuration once has little to do, and another much.
+    fn meets(&self, log: &[u16], limit: u64) -> bool {
+        let Some((table, initial)) = self.trees() else {
+            return false;
+        };
+        let limit = limit.min(MOST as u64) as usize;
+        search_once(table, &initial, log, limit, 600).is_some()
+            && search(table, &initial, log, limit, 1_200).is_none()
+    }
+
     fn replay(&mut self) -> Call {
         let length = self.log_length();
         let small = self.game.configuration.len() < 400;
@@ -294,8 +305,18 @@ impl Calls {
         let limit = self.limit(initial, needed);
         let table = self.table_words(4);
         let configuration = self.configuration_words(4);
-        let most = if self.left == 0 { 4_000 } else { 600 };
+        // Much more where paths meet, so that there is little to do for a search that remembers.
+        let most = match self.left {
+            _ if self.meets(&log, limit) => 20_000,
+            0 => 4_000,
+            _ => 600,
+        };
         log.truncate(searchable_of(&table, &configuration, &log, limit, most));
+        // Room in the frames, for what the search keeps there.
+        let limit = match self.rng.below(10) {
+            0..3 if limit < 200 => limit + self.rng.below(8 * limit as usize + 1) as u64,
+            _ => limit,
+        };
         if self.rng.percent(1) {
             // Too long, whatever the rest is.
             log.resize(4_097, 0);

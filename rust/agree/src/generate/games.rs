@@ -32,7 +32,8 @@ pub fn game(rng: &mut Rng) -> Game {
         350..520 => from_configuration(rng),
         520..640 => functions(rng),
         640..720 => shared(rng),
-        720..960 => maze(rng),
+        720..870 => maze(rng),
+        870..960 => rejoining(rng),
         960..990 => many_rules(rng),
         _ => large(rng),
     };
@@ -354,6 +355,45 @@ fn maze(rng: &mut Rng) -> Game {
     Game {
         rules,
         configuration: at(0, int(0)),
+    }
+}
+
+/// A few counters, and rules with one action that each move some of them, in any order: paths that
+/// take the same moves meet again. A move can make the configuration larger, so that one takes the
+/// place of what the search kept beside a smaller one. The second action asks for what is rare.
+fn rejoining(rng: &mut Rng) -> Game {
+    let places = 1 + rng.below(4);
+    let all: Vec<Words> = (0..places as i64).map(variable).collect();
+    let load = variable(places as i64);
+    let at = |counters: &[Words], load: Words| symbol(3, &[counters, &[load]].concat());
+    let action = rng.range(0, 65_535);
+    let other = rng.range(0, 65_535);
+    let mut rules: Vec<RuleWords> = (0..1 + rng.below(4))
+        .map(|_| {
+            let mut next = all.clone();
+            let place = rng.below(places);
+            next[place] = call(8, &[variable(place as i64), int(rng.pick(&[1, 1, 1, -1]))]);
+            let carried = match rng.below(8) {
+                0 => symbol(4, &[load.clone()]),
+                1 => symbol(4, &[int(0), load.clone(), int(0)]),
+                _ => load.clone(),
+            };
+            RuleWords::new(action, at(&all, load.clone()), at(&next, carried))
+        })
+        .collect();
+    if rng.percent(60) {
+        // The same successor by two rules.
+        let rule = rules[rng.below(rules.len())].clone();
+        rules.push(rule);
+    }
+    let mut goal = all.clone();
+    goal[rng.below(places)] = int(rng.range(0, 6));
+    rules.push(RuleWords::new(other, at(&goal, load), int(0)));
+    let start = vec![int(0); places];
+    let nodes = rng.pick(&[1, 1, 3, 12, 40]);
+    Game {
+        rules,
+        configuration: at(&start, bush(nodes)),
     }
 }
 

@@ -2,8 +2,9 @@
 //!
 //! All terms lie at an even distance from each other, so both slices are taken as nodes, pairs of
 //! words. A table is checked and indexed in one walk; after that neither the table nor a
-//! configuration is checked again. A run and a replay allocate nothing once they have the index: a
-//! run writes to its two lent buffers in turn, a replay keeps its stack in the work area.
+//! configuration is checked again. A run allocates nothing once it has the index: it writes to its two
+//! lent buffers in turn. A replay keeps its stack in the work area, and a set of the configurations
+//! that it has searched in vain.
 
 mod check;
 mod evaluate;

@@ -5,6 +5,7 @@ use super::rules::{Bindings, Rules};
 use super::{Node, nodes, nodes_mut};
 use crate::answer::{Check, Refusal, Replay, Run, Step};
 use crate::limits;
+use std::collections::HashSet;
 
 /// Whether the words are a well formed table.
 pub fn check_table(table: &[i64]) -> Check {
@@ -193,7 +194,8 @@ fn run_between(
 
 /// Goes through the lists of rules in dictionary order. The stack is in `frames`: for each action
 /// a configuration in as many nodes as the limit, then one node with its size and the lowest rule
-/// that was not tried on it. If the log is reproduced, the stack is the path.
+/// that was not tried on it. If the log is reproduced, the stack is the path. A configuration from
+/// which the rest of the log was tried in vain is remembered with its depth, and not entered again.
 fn search(
     rules: &Rules,
     initial: &[Node],
@@ -203,6 +205,7 @@ fn search(
 ) -> Replay {
     let mut bindings = Bindings::default();
     let mut over = false;
+    let mut in_vain: HashSet<(usize, Vec<Node>)> = HashSet::new();
     frames[..initial.len()].copy_from_slice(initial);
     frames[limit] = [initial.len() as i64, 0];
     let mut depth = 0;
@@ -219,6 +222,7 @@ fn search(
                     Replay::NotReproduced
                 };
             }
+            in_vain.insert((depth, configuration.to_vec()));
             depth -= 1;
             continue;
         };
@@ -230,6 +234,9 @@ fn search(
             continue;
         }
         rule.write(configuration, &bindings, &mut behind[..size]);
+        if !in_vain.is_empty() && in_vain.contains(&(depth + 1, behind[..size].to_vec())) {
+            continue;
+        }
         behind[limit] = [size as i64, 0];
         depth += 1;
     }

@@ -21,14 +21,14 @@ add-step c = omega arith
 loop-holds : tie.Need-loop-holds Inv-loop μ-loop
 loop-holds c = (omega arith, omega arith, omega arith)
 
-mul-mix : tie.Need-mul-mix Inv-loop μ-loop
-mul-mix c = omega arith
-
 natural-at-requires : tie.Need-natural-at-requires Inv-loop μ-loop
 natural-at-requires c κs = omega arith
 
 add-mix : tie.Need-add-mix Inv-loop μ-loop
 add-mix c = omega arith
+
+mul-mix : tie.Need-mul-mix Inv-loop μ-loop
+mul-mix c = omega arith
 
 add-i : tie.Need-add-i Inv-loop μ-loop
 add-i c = omega arith
@@ -51,9 +51,9 @@ mixed-spec =
     mul-step
     add-step
     loop-holds
-    mul-mix
     natural-at-requires
     add-mix
+    mul-mix
     add-i
     loop-less
     loop-again

@@ -13,11 +13,11 @@ use Rattle.replay.proofs.entries.slot_at.Statement.{statement}
 use Rattle.replay.proofs.entries.slot_at.Tie as tie
 
 -- the table's words, and which slot it is
-product : (c : tie.Else7) → (c .before .before .before .before .before .before .before .natural-at2 .result + 1) * c .before .before .before .before .before .before .before .before .natural-at .result ≤ 65 * 65536
+product : (c : tie.Else7) → (c .before .before .before .before .before .before .before .natural-at2 .result + 1) * c .before .before .before .before .before .before .before .before .natural-at .result ≤ 257 * 65536
 product c =
     let n = c .before .before .before .before .before .before .before in
     let s = n .before .before .before in
-    let h : n .natural-at2 .result + 1 ≤ 65 = omega (arith, c .before .if6 .left) in
+    let h : n .natural-at2 .result + 1 ≤ 257 = omega (arith, c .before .if6 .left) in
     let k : n .before .natural-at .result ≤ 65536 = omega (arith, c .if7 .left, s .pre .1) in
     mul-le-mul h k
 
@@ -88,7 +88,7 @@ mul-result c =
     let n = c .before .before .before .before .before .before .before .before in
     let s = n .before .before .before in
     let h : s .args .mix ≤ 4294967296 = omega (arith, s .pre .2) in
-    let k : n .natural-at2 .result ≤ 64 = c .before .before .if6 .left in
+    let k : n .natural-at2 .result ≤ 256 = c .before .before .if6 .left in
     omega (arith, mul-le-mul h k)
 
 add-result : tie.Need-add-result
