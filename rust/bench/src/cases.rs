@@ -33,7 +33,7 @@ pub struct Case {
 }
 
 /// So many successors of a replay without memory are counted.
-const COUNTED: usize = 10_000_000;
+const COUNTED: usize = 2_000_000;
 
 impl Case {
     fn new(

@@ -192,6 +192,9 @@ fn run_between(
     }
 }
 
+/// With so many actions left or fewer a search is too short to be worth remembering.
+const SHORT: usize = 3;
+
 /// Goes through the lists of rules in dictionary order. The stack is in `frames`: for each action
 /// a configuration in as many nodes as the limit, then one node with its size and the lowest rule
 /// that was not tried on it. If the log is reproduced, the stack is the path. A configuration from
@@ -222,7 +225,9 @@ fn search(
                     Replay::NotReproduced
                 };
             }
-            in_vain.insert((depth, configuration.to_vec()));
+            if log.len() - depth > SHORT {
+                in_vain.insert((depth, configuration.to_vec()));
+            }
             depth -= 1;
             continue;
         };
@@ -234,7 +239,8 @@ fn search(
             continue;
         }
         rule.write(configuration, &bindings, &mut behind[..size]);
-        if !in_vain.is_empty() && in_vain.contains(&(depth + 1, behind[..size].to_vec())) {
+        let worth = !in_vain.is_empty() && log.len() - depth > SHORT + 1;
+        if worth && in_vain.contains(&(depth + 1, behind[..size].to_vec())) {
             continue;
         }
         behind[limit] = [size as i64, 0];
