@@ -1,21 +1,19 @@
 -- A walk below no left leaves the flags as they are.
-use mathlib.Core.Path.{_≡_, refl, _∙_, subst⁻¹}
-use mathlib.Core.Bool.{Bool}
-use mathlib.Core.Logic.{inl, inr}
+use mathlib.Core.Path.{_≡_, refl, _∙_, subst}
+use mathlib.Core.Bool.{Bool, true, false, cond}
 use mathlib.Core.List.{List, [], _∷_, _++_}
 use Prim.Native.Nat.{ℕ, zero, suc, _+_}
 use lib.IntN.{ℤ}
-use lib.ListN.{drop, replicate}
+use lib.ListN.{drop, getD, replicate}
 use Rattle.table.specs.declared.node.Level.{Level}
 use Rattle.table.specs.declared.node.Level.the-variants.{Left, Right, Expression, Ground}
-use Rattle.table.specs.declared.node.Below.{Below}
-use Rattle.table.specs.declared.node.Below.the-variants as B
+use Rattle.table.specs.Below.{Below}
+use Rattle.table.specs.Below as B
 use Rattle.table.specs.declared.node.Node.{Node}
 use Rattle.table.specs.declared.node.Node.the-variants as N
-use Rattle.table.specs.Node.{nodeOf, flagNode, admitted, seenAfter}
+use Rattle.table.specs.Node.{nodeOf, flagNode, takesCall, takesVariable, underPlain, admitNode, admitted, seenAfter}
 use Rattle.table.specs.Walk.{onward, walk, partWalk, partSeen}
-use Rattle.table.proofs.PendingLaw.{Deeper}
-use Rattle.table.proofs.TurnLaw.{admitted-deeper}
+use Rattle.table.proofs.BasicLaw.{never}
 use Rattle.table.proofs.TestLaw.{Inner}
 
 abbrev Inners : List Level → Type 0
@@ -26,12 +24,28 @@ more-inner : (k : ℕ) (b : Level) (ls : List Level) → Inner b → Inners ls �
 more-inner zero b ls i is = is
 more-inner (suc k) b ls i is = (i, more-inner k b ls i is)
 
-deeper-inner : (l b : Level) → Inner l → Deeper l b → Inner b
-deeper-inner l b i (inl e) = subst⁻¹ Inner e i
-deeper-inner l b i (inr (inl e)) = subst⁻¹ Inner e tt
-deeper-inner l b i (inr (inr e)) = subst⁻¹ Inner (e .0) tt
+-- what is below a node is below no left either
+admitted-inner : (l : Level) → Inner l → (t d : ℤ) (s : List Bool) (b : Level) (k : ℕ) → admitted l t d s ≡ B.Are b k → Inner b
+unfolding admitted
+admitted-inner l i t d s b k = at (nodeOf t d)
+  where
+    under : (l : Level) → Inner l → Inner (underPlain l)
+    under Left i = absurd i
+    under Right i = tt
+    under Expression i = tt
+    under Ground i = tt
 
-node-keeps : (l : Level) → Inner l → (t d : ℤ) (seen : List Bool) → seenAfter l t d seen ≡ seen
+    taken : (c : Bool) (x : Level) (j : ℕ) → Inner x → cond c (B.Are x j) B.Bad ≡ B.Are b k → Inner b
+    taken true x j i e = let p : x ≡ b = cc in subst Inner p i
+    taken false x j i e = absurd (never (cc))
+
+    at : (n : Node) → admitNode l s n ≡ B.Are b k → Inner b
+    at (N.Plain j) e = let p : underPlain l ≡ b = cc in subst Inner p (under l i)
+    at (N.Call j) e = taken (takesCall l) Expression j tt e
+    at (N.Variable v) e = taken (takesVariable l (getD s v false)) l 0 i e
+    at N.Bad e = absurd (never (cc))
+
+pub node-keeps : (l : Level) → Inner l → (t d : ℤ) (seen : List Bool) → seenAfter l t d seen ≡ seen
 unfolding seenAfter
 node-keeps l i t d seen = at l i (nodeOf t d)
   where
@@ -54,7 +68,7 @@ walk-keeps (t ∷ d ∷ ws) at (l ∷ ls) seen is = pick (admitted l t d seen) r
   where
     pick : (b : Below) → admitted l t d seen ≡ b → ((ms : List Level) (s : List Bool) → Inners ms → walk ws (at + 2) ms s .seen ≡ s) → onward b ls (seenAfter l t d seen) (λ ms s. walk ws (at + 2) ms s) .seen ≡ seen
     pick B.Bad q h = node-keeps l (is .0) t d seen
-    pick (B.Are b k) q h = h (replicate k b ++ ls) (seenAfter l t d seen) (more-inner k b ls (deeper-inner l b (is .0) (admitted-deeper l t d seen b k q)) (is .1)) ∙ node-keeps l (is .0) t d seen
+    pick (B.Are b k) q h = h (replicate k b ++ ls) (seenAfter l t d seen) (more-inner k b ls (admitted-inner l (is .0) t d seen b k q) (is .1)) ∙ node-keeps l (is .0) t d seen
 
 pub part-keeps : (ws : List ℤ) (at : ℕ) (l : Level) (seen : List Bool) → Inner l → partSeen ws at l seen ≡ seen
 unfolding partWalk

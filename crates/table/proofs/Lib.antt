@@ -1,12 +1,13 @@
 pub mod BasicLaw
 pub mod NumberLaw
 pub mod NodeLaw
-pub mod PendingLaw
 pub mod TurnLaw
+pub mod ReachLaw
 pub mod ScanLaw
 pub mod PartLaw
 pub mod TestLaw
 pub mod KeepLaw
+pub mod GroundLaw
 pub mod SideLaw
 pub mod ConditionLaw
 pub mod RuleLaw

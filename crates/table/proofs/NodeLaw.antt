@@ -1,26 +1,27 @@
--- What two words are, from the child count that they say and the tag.
+-- What two words are: a variable, a call, a node of a ground term, or no node.
 use mathlib.Core.Path.{_≡_, refl, sym, _∙_, ap, subst}
 use mathlib.Core.Bool.{Bool, true, false, cond}
 use mathlib.Core.List.{List}
-use mathlib.Core.Option.{Option, none, some}
+use mathlib.Core.Option.{Option, none, some, Option·none-ne-some, Option·some-injective}
 use Prim.Native.Nat.{ℕ, _+_, _≤_, _<_}
 use native.Mathlib.Omega.{arith}
-use lib.Dec.{T, eqb, ltb, eqb→eq, ltb→lt}
+use lib.Dec.{T, eqb, ltb, eqb→eq, ltb→lt, lt→ltb, eqb-refl}
 use lib.IntN.{ℤ, pos}
 use lib.ListN.{getD}
-use Rattle.minuska.proofs.Tests.{and-left, and-right}
-use Rattle.minuska.proofs.WordLaw.{node-read}
+use Rattle.minuska.proofs.Tests.{and-left, and-right, and-both}
+use Rattle.minuska.proofs.WordLaw.{node-read, read-node}
 use Rattle.minuska.proofs.ReadLaw.{few-children}
+use Rattle.minuska.specs.Basics.{_>>=_, provided}
 use Rattle.minuska.specs.Computed.Read.{readNode}
-use Rattle.minuska.specs.Term.{Label, error, truth, whole, variable, call, symbol, role}
+use Rattle.minuska.specs.Function.{functionAt}
+use Rattle.minuska.specs.Term.{Label, error, truth, whole, variable, call, symbol, Role, aVariable, aCall, plain, role, groundAt}
 use Rattle.minuska.specs.Word.{okHead, tagWord, datumWord}
-use Rattle.term.specs.TermEnd.{childCountOf}
-use Rattle.term.specs.declared.Count.the-variants as C
+use Rattle.term.specs.TermEnd.{arityOf, childrenByTag, groundLabel, GroundNode}
 use Rattle.table.specs.Number.{naturalOf}
-use Rattle.table.specs.Node.{nodeAs, nodeIn, nodeOf, takesCall, takesVariable, flags, TakesVariable, admitNode, flagNode, admitted, seenAfter, Admits}
+use Rattle.table.specs.Node.{nodeAs, nodeIn, nodeOf, takesCall, takesVariable, flags, sideLevel, TakesVariable, admitNode, admitted}
 use Rattle.table.specs.declared.node.Level.{Level}
 use Rattle.table.specs.declared.node.Level.the-variants.{Expression}
-use Rattle.table.specs.declared.node.Below.the-variants as B
+use Rattle.table.specs.Below as B
 use Rattle.table.specs.declared.node.Node.{Node}
 use Rattle.table.specs.declared.node.Node.the-variants as N
 use Rattle.table.proofs.BasicLaw.{never}
@@ -37,76 +38,87 @@ pub record Read (t d : ℤ) (k : ℕ) : Type 0 where
 pub node-read-as : (t d : ℤ) (n : Label × ℕ) → readNode t d ≡ some n → Read t d (n .1)
 node-read-as t d n e = let r = node-read t d n e in record { label = n .0; read = e; inRange = r .0; tag = r .1; datum = r .2 }
 
-pub counted-read : (t d : ℤ) (k : ℕ) → C.Is k ≡ childCountOf t d → Read t d k
-unfolding childCountOf
-counted-read t d k e = pick (readNode t d) refl
-  where
-    pick : (o : Option (Label × ℕ)) → readNode t d ≡ o → Read t d k
-    pick none q = let h = rw q at e in absurd (never (cc))
-    pick (some n) q = let h = rw q at e in let p : n .1 ≡ k = cc in subst (Read t d) p (node-read-as t d n q)
-
--- ---- what `classify` answers
-pub node-bad : (t d : ℤ) → C.Bad ≡ childCountOf t d → N.Bad ≡ nodeOf t d
-unfolding childCountOf nodeOf
-node-bad t d e = pick (readNode t d) refl
-  where
-    pick : (o : Option (Label × ℕ)) → readNode t d ≡ o → N.Bad ≡ nodeIn (readNode t d)
-    pick none q = sym (ap nodeIn q)
-    pick (some n) q = let h = rw q at e in absurd (never (cc))
-
-node-is : (t d : ℤ) (k : ℕ) (r : Read t d k) → nodeAs (role (r .label)) k ≡ nodeOf t d
-unfolding nodeOf
-node-is t d k r = sym (ap nodeIn (r .read))
-
 different : (m n : ℕ) → (m ≡ n → ⊥) → pos m ≡ pos n → ⊥
 different m n f e = f (let h = e in let p : m ≡ n = cc in p)
 
-variable-tag : (l : Label) (k : ℕ) (d : ℤ) → tagWord l k ≡ pos 3 → datumWord l ≡ d → N.Variable (naturalOf d) ≡ nodeAs (role l) k
-variable-tag error k d p q = absurd (different 0 3 (omega arith) p)
-variable-tag (truth b) k d p q = absurd (different 1 3 (omega arith) p)
-variable-tag (whole z) k d p q = absurd (different 2 3 (omega arith) p)
-variable-tag (variable v) k d p q = subst (λ (z : ℤ). N.Variable (naturalOf z) ≡ N.Variable v) q refl
-variable-tag (call c) k d p q = absurd (different 4 3 (omega arith) p)
-variable-tag (symbol s) k d p q = absurd (different (8 + k) 3 (omega arith) p)
+-- two words that are no node
+no-node : (t d : ℤ) → ((n : Label × ℕ) → readNode t d ≡ some n → ⊥) → N.Bad ≡ nodeOf t d
+unfolding nodeOf
+no-node t d f = pick (readNode t d) refl
+  where
+    pick : (o : Option (Label × ℕ)) → readNode t d ≡ o → N.Bad ≡ nodeIn o
+    pick none q = refl
+    pick (some n) q = absurd (f n q)
 
-call-tag : (l : Label) (k : ℕ) → tagWord l k ≡ pos 4 → N.Call k ≡ nodeAs (role l) k
-call-tag error k p = absurd (different 0 4 (omega arith) p)
-call-tag (truth b) k p = absurd (different 1 4 (omega arith) p)
-call-tag (whole z) k p = absurd (different 2 4 (omega arith) p)
-call-tag (variable v) k p = absurd (different 3 4 (omega arith) p)
-call-tag (call c) k p = refl
-call-tag (symbol s) k p = absurd (different (8 + k) 4 (omega arith) p)
+-- ---- a variable
+variable-number : (l : Label) (k : ℕ) (d : ℤ) → T (okHead l k) → tagWord l k ≡ pos 3 → datumWord l ≡ d → naturalOf d < 16
+variable-number error k d x p q = absurd (different 0 3 (omega arith) p)
+variable-number (truth b) k d x p q = absurd (different 1 3 (omega arith) p)
+variable-number (whole z) k d x p q = absurd (different 2 3 (omega arith) p)
+variable-number (variable v) k d x p q = subst (λ (z : ℤ). naturalOf z < 16) q (ltb→lt v 16 (and-left (ltb v 16) (eqb k 0) x))
+variable-number (call c) k d x p q = absurd (different 4 3 (omega arith) p)
+variable-number (symbol s) k d x p q = absurd (different (8 + k) 3 (omega arith) p)
 
-plain-tag : (l : Label) (k : ℕ) → (tagWord l k ≡ pos 3 → ⊥) → (tagWord l k ≡ pos 4 → ⊥) → N.Plain k ≡ nodeAs (role l) k
-plain-tag error k f g = refl
-plain-tag (truth b) k f g = refl
-plain-tag (whole z) k f g = refl
-plain-tag (variable v) k f g = absurd (f refl)
-plain-tag (call c) k f g = absurd (g refl)
-plain-tag (symbol s) k f g = refl
+pub no-variable : (d : ℤ) → 15 < naturalOf d → N.Bad ≡ nodeOf (pos 3) d
+no-variable d h = no-node (pos 3) d (λ n q. let r = node-read (pos 3) d n q in let s = variable-number (n .0) (n .1) d (r .0) (r .1) (r .2) in omega arith)
 
-module _ (t d : ℤ) (k : ℕ) (e : C.Is k ≡ childCountOf t d) where
-  pub node-variable : naturalOf t ≡ 3 → N.Variable (naturalOf d) ≡ nodeOf t d
-  node-variable q =
-      let r = counted-read t d k e in
-      variable-tag (r .label) k d (r .tag ∙ natural-is t 3 q (omega arith)) (r .datum) ∙ node-is t d k r
+pub a-variable : (d : ℤ) → naturalOf d ≤ 15 → N.Variable (naturalOf d) ≡ nodeOf (pos 3) d
+unfolding nodeOf
+a-variable d h =
+    let v = naturalOf d in
+    let e : d ≡ pos (naturalOf d) = natural-is d (naturalOf d) refl (omega arith) in
+    let g : naturalOf d < 16 = omega arith in
+    sym (ap (λ (z : ℤ). nodeIn (readNode (pos 3) z)) e ∙ ap nodeIn (read-node (variable v) 0 (and-both (ltb v 16) true (lt→ltb v 16 g) tt)))
 
-  pub node-call : naturalOf t ≡ 4 → N.Call k ≡ nodeOf t d
-  node-call q = let r = counted-read t d k e in call-tag (r .label) k (r .tag ∙ natural-is t 4 q (omega arith)) ∙ node-is t d k r
+-- ---- a call
+call-number : (l : Label) (k : ℕ) (d : ℤ) → T (okHead l k) → tagWord l k ≡ pos 4 → datumWord l ≡ d → naturalOf d < 15
+call-number error k d x p q = absurd (different 0 4 (omega arith) p)
+call-number (truth b) k d x p q = absurd (different 1 4 (omega arith) p)
+call-number (whole z) k d x p q = absurd (different 2 4 (omega arith) p)
+call-number (variable v) k d x p q = absurd (different 3 4 (omega arith) p)
+call-number (call c) k d x p q = subst (λ (z : ℤ). naturalOf z < 15) q (ltb→lt c 15 (and-left (ltb c 15) (eqb k (functionAt c .arity)) x))
+call-number (symbol s) k d x p q = absurd (different (8 + k) 4 (omega arith) p)
 
-  pub node-plain : (naturalOf t ≡ 3 → ⊥) → (naturalOf t ≡ 4 → ⊥) → N.Plain k ≡ nodeOf t d
-  node-plain f g =
-      let r = counted-read t d k e in
-      plain-tag (r .label) k (λ p. f (ap naturalOf (sym (r .tag) ∙ p))) (λ p. g (ap naturalOf (sym (r .tag) ∙ p))) ∙ node-is t d k r
+pub no-call : (d : ℤ) → 14 < naturalOf d → N.Bad ≡ nodeOf (pos 4) d
+no-call d h = no-node (pos 4) d (λ n q. let r = node-read (pos 4) d n q in let s = call-number (n .0) (n .1) d (r .0) (r .1) (r .2) in omega arith)
 
--- ---- what `takes_variable` answers, at each level
-pub takes : (l level : Level) (v : ℕ) (seen : List Bool) → level ≡ l → TakesVariable level v seen (flags l v seen) (takesVariable l (getD seen v false))
-takes l level v seen e = record { answer = ap (λ (x : Level). takesVariable x (getD seen v false)) (sym e); leaves = ap (λ (x : Level). flags x v seen) (sym e) }
+pub a-call : (d : ℤ) → naturalOf d ≤ 14 → N.Call (arityOf (naturalOf d)) ≡ nodeOf (pos 4) d
+unfolding nodeOf arityOf
+a-call d h =
+    let c = naturalOf d in
+    let m = functionAt (naturalOf d) .arity in
+    let e : d ≡ pos (naturalOf d) = natural-is d (naturalOf d) refl (omega arith) in
+    let g : naturalOf d < 15 = omega arith in
+    sym (ap (λ (z : ℤ). nodeIn (readNode (pos 4) z)) e ∙ ap nodeIn (read-node (call c) m (and-both (ltb c 15) (eqb m m) (lt→ltb c 15 g) (eqb-refl m))))
 
--- ---- what `admit` answers
-pub admits : (l : Level) (t d : ℤ) (seen : List Bool) (n : Node) → n ≡ nodeOf t d → Admits l t d seen (flagNode l seen n) (admitNode l seen n)
-unfolding admitted seenAfter
-admits l t d seen n e = record { answer = ap (admitNode l seen) e; leaves = ap (flagNode l seen) e }
+-- ---- any other node is a ground term's
+pub a-plain : (t d : ℤ) → GroundNode t d true → N.Plain (childrenByTag t) ≡ nodeOf t d
+unfolding nodeOf
+a-plain t d g = pick (readNode t d) (g .children)
+  where
+    at : (r : Role) (j : ℕ) → provided (groundAt r) j ≡ some (childrenByTag t) → N.Plain (childrenByTag t) ≡ nodeAs r j
+    at (aVariable v) j e = absurd (Option·none-ne-some (childrenByTag t) e)
+    at (aCall c) j e = absurd (Option·none-ne-some (childrenByTag t) e)
+    at plain j e = ap N.Plain (sym (Option·some-injective j (childrenByTag t) e))
+
+    pick : (o : Option (Label × ℕ)) → (o >>= λ n. provided (groundLabel (n .0)) (n .1)) ≡ some (childrenByTag t) → N.Plain (childrenByTag t) ≡ nodeIn o
+    pick none e = absurd (Option·none-ne-some (childrenByTag t) e)
+    pick (some n) e = at (role (n .0)) (n .1) e
+
+pub no-plain : (t d : ℤ) → GroundNode t d false → (t ≡ pos 3 → ⊥) → (t ≡ pos 4 → ⊥) → N.Bad ≡ nodeOf t d
+no-plain t d g f h = no-node t d (λ n q. let r = node-read t d n q in at (n .0) (n .1) (r .1) (sym (ap (λ (o : Option (Label × ℕ)). o >>= λ n. provided (groundLabel (n .0)) (n .1)) q) ∙ g .children))
+  where
+    at : (l : Label) (j : ℕ) → tagWord l j ≡ t → provided (groundLabel l) j ≡ none → ⊥
+    at error j p e = Option·none-ne-some j (sym e)
+    at (truth b) j p e = Option·none-ne-some j (sym e)
+    at (whole z) j p e = Option·none-ne-some j (sym e)
+    at (variable v) j p e = f (sym p)
+    at (call c) j p e = h (sym p)
+    at (symbol s) j p e = Option·none-ne-some j (sym e)
+
+-- ---- what `takes_variable` answers, on each side
+pub takes : (b left : Bool) (v : ℕ) (seen : List Bool) → left ≡ b → TakesVariable (sideLevel left) v seen (flags (sideLevel b) v seen) (takesVariable (sideLevel b) (getD seen v false))
+takes b left v seen e = record { answer = ap (λ (x : Bool). takesVariable (sideLevel x) (getD seen v false)) (sym e); leaves = ap (λ (x : Bool). flags (sideLevel x) v seen) (sym e) }
 
 -- the number of children is the one that the two words say
 module _ (l : Level) (seen : List Bool) (b : Level) (k : ℕ) where

@@ -19,8 +19,8 @@ use Rattle.minuska.proofs.SpanLaw.{read-term-iff}
 use Rattle.minuska.proofs.ReadLaw.{span-reads}
 use Rattle.term.specs.declared.Place.the-variants as P
 use Rattle.table.specs.declared.node.Level.{Level}
-use Rattle.table.specs.declared.node.Below.{Below}
-use Rattle.table.specs.declared.node.Below.the-variants as B
+use Rattle.table.specs.Below.{Below}
+use Rattle.table.specs.Below as B
 use Rattle.table.specs.Node.{admitted, seenAfter}
 use Rattle.table.specs.Walk.{Walked, onward, walk, within, placed, partWalk, partEnd, partSeen}
 use Rattle.table.proofs.BasicLaw.{never}

@@ -16,8 +16,8 @@ use Rattle.minuska.proofs.Tests.{and-right}
 use Rattle.minuska.proofs.WordLaw.{okay, head-okay, read-node}
 use Rattle.table.specs.declared.node.Level.{Level}
 use Rattle.table.specs.declared.node.Level.the-variants.{Expression}
-use Rattle.table.specs.declared.node.Below.{Below}
-use Rattle.table.specs.declared.node.Below.the-variants as B
+use Rattle.table.specs.Below.{Below}
+use Rattle.table.specs.Below as B
 use Rattle.table.specs.Node.{takesCall, takesVariable, underPlain, flags, nodeAs, nodeIn, nodeOf, admitNode, flagNode, admitted, seenAfter}
 use Rattle.table.specs.Walk.{Walked, onward, walk}
 

@@ -12,8 +12,8 @@ use Rattle.table.specs.declared.node.Level.{Level}
 use Rattle.table.specs.declared.node.Level.the-variants.{Left, Right, Expression, Ground}
 use Rattle.table.specs.declared.node.Node.{Node}
 use Rattle.table.specs.declared.node.Node.the-variants as N
-use Rattle.table.specs.declared.node.Below.{Below}
-use Rattle.table.specs.declared.node.Below.the-variants as B
+use Rattle.table.specs.Below.{Below}
+use Rattle.table.specs.Below as B
 
 -- what two words are, if they are a node in range
 abbrev pub nodeAs : Role → ℕ → Node
@@ -55,6 +55,11 @@ flags Right v seen = seen
 flags Expression v seen = seen
 flags Ground v seen = seen
 
+-- a rule's two sides
+abbrev pub sideLevel : Bool → Level
+sideLevel true = Left
+sideLevel false = Right
+
 pub record TakesVariable (level : Level) (v : ℕ) (seen seen′ : List Bool) (r : Bool) : Type 0 where
   pub answer : r ≡ takesVariable level (getD seen v false)
   pub leaves : seen′ ≡ flags level v seen
@@ -77,7 +82,3 @@ admitted l t d seen = admitNode l seen (nodeOf t d)
 
 unfoldable pub seenAfter : Level → ℤ → ℤ → List Bool → List Bool
 seenAfter l t d seen = flagNode l seen (nodeOf t d)
-
-pub record Admits (level : Level) (t d : ℤ) (seen seen′ : List Bool) (r : Below) : Type 0 where
-  pub answer : r ≡ admitted level t d seen
-  pub leaves : seen′ ≡ seenAfter level t d seen

@@ -12,11 +12,8 @@ use Rattle.term.specs.declared.Place.{Place}
 use Rattle.term.specs.declared.Place.the-variants as P
 use Rattle.table.specs.declared.node.Level.{Level}
 use Rattle.table.specs.declared.node.Level.the-variants.{Left, Right, Expression, Ground}
-use Rattle.table.specs.declared.node.Below.{Below}
-use Rattle.table.specs.declared.node.Below.the-variants as B
-use Rattle.table.specs.declared.walk.Pending.{Pending}
-use Rattle.table.specs.declared.walk.Next.{Next}
-use Rattle.table.specs.declared.walk.Next.the-variants as X
+use Rattle.table.specs.Below.{Below}
+use Rattle.table.specs.Below as B
 use Rattle.table.specs.Node.{admitted, seenAfter}
 
 -- the place behind the last node, if all passed; the variables flagged
@@ -58,38 +55,3 @@ partSeen ws at kind seen = partWalk ws at kind seen .seen
 pub record PartContract (ws : List ℤ) (at : ℕ) (kind : Level) (seen seen′ : List Bool) (r : Place) : Type 0 where
   pub answer : r ≡ placed (partEnd ws at kind seen)
   pub leaves : seen′ ≡ partSeen ws at kind seen
-
--- The same levels, counted: ground nodes come first, then those of expressions, then the others.
-abbrev pub levels : Level → Pending → List Level
-levels kind p = replicate (p .ground) Ground ++ (replicate (p .inner) Expression ++ replicate (p .outer) kind)
-
--- the next level; one node less; its children more; how many in all
-abbrev pub nextIn : Level → ℕ → ℕ → ℕ → Next
-nextIn kind (suc g) i o = X.At Ground
-nextIn kind zero (suc i) o = X.At Expression
-nextIn kind zero zero (suc o) = X.At kind
-nextIn kind zero zero zero = X.Done
-
-unfoldable pub nextOf : Level → Pending → Next
-nextOf kind p = nextIn kind (p .ground) (p .inner) (p .outer)
-
-abbrev pub counts : ℕ → ℕ → ℕ → Pending
-counts g i o = record { outer = o; inner = i; ground = g }
-
-abbrev pub popIn : ℕ → ℕ → ℕ → Pending
-popIn (suc g) i o = counts g i o
-popIn zero (suc i) o = counts zero i o
-popIn zero zero (suc o) = counts zero zero o
-popIn zero zero zero = counts zero zero zero
-
-unfoldable pub popped : Pending → Pending
-popped p = popIn (p .ground) (p .inner) (p .outer)
-
-unfoldable pub pushed : Pending → Level → ℕ → Pending
-pushed p Left k = counts (p .ground) (p .inner) (p .outer + k)
-pushed p Right k = counts (p .ground) (p .inner) (p .outer + k)
-pushed p Expression k = counts (p .ground) (p .inner + k) (p .outer)
-pushed p Ground k = counts (p .ground + k) (p .inner) (p .outer)
-
-abbrev pub pending : Pending → ℕ
-pending p = p .outer + p .inner + p .ground

@@ -9,6 +9,7 @@ ghost use mathlib.Core.List.{[], _∷_};
 ghost use Prim.Native.Nat.{_+_, _*_, _≤_};
 ghost use lib.ListN.{length};
 ghost use lib.Seq.{sets};
+ghost use Rattle.term.specs.Datum.{groundRanges};
 ghost use Rattle.table.specs.Index.{IndexTableContract};
 
 // Writes a rule's four numbers.
@@ -24,8 +25,8 @@ fn put(index: &mut [usize], rule: usize, at: usize, right: usize, conditions: us
 }
 
 // The check. A rule's numbers are written once it is accepted.
-pub fn fill(table: &[i64], index: &mut [usize]) -> Check
-    requires { ⌜ 1024 ≤ length (now index) ⌝ }
+pub fn fill(table: &[i64], index: &mut [usize], ranges: &[i64; 32]) -> Check
+    requires { ⌜ (1024 ≤ length (now index)) × (now ranges ≡ groundRanges) ⌝ }
     ensures { λ r. ⌜ IndexTableContract (now (table .entry)) (now (index .entry)) (now (index .exit)) r ⌝ }
 {
     let n = table.len();
@@ -42,7 +43,7 @@ pub fn fill(table: &[i64], index: &mut [usize]) -> Check
     let mut at: usize = 1;
     let mut rule: usize = 0;
     while rule < count {
-        let Parts::At(right, conditions, end) = rule_parts(table, at) else {
+        let Parts::At(right, conditions, end) = rule_parts(table, at, ranges) else {
             return Check::Refused(Refusal::BadTable);
         };
         put(index, rule, at, right, conditions, end);

@@ -1,8 +1,10 @@
 // The table's check, and the index: where the parts of each rule stand.
+mod expression;
 mod fill;
 mod node;
 mod number;
 mod rule;
+mod side;
 mod walk;
 
 use crate::fill::fill;
@@ -24,7 +26,8 @@ pub fn check_table(table: &[i64]) -> Check
 pub fn index_table(table: &[i64], index: &mut [usize; 1024]) -> Check
     ensures { λ r. ⌜ IndexTableContract (now (table .entry)) (now (index .entry)) (now (index .exit)) r ⌝ }
 {
-    fill(table, index)
+    let ranges = term::ground::RANGES;
+    fill(table, index, &ranges)
 }
 
 // How many rules a checked table has.

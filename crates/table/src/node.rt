@@ -1,9 +1,10 @@
-// One node of a table's terms: what its two words are, and whether it may stand where it stands.
+// One node of a table's terms: what its two words are, and whether a variable may stand where it stands.
 use crate::number::natural;
-use term::Count;
 ghost use mathlib.Core.Path.{_≡_};
+ghost use lib.IntN.{pos};
 ghost use Prim.Native.Nat.{_<_};
-ghost use Rattle.table.specs.Node.{nodeOf, takesCall, underPlain, TakesVariable, Admits};
+ghost use Rattle.term.specs.Datum.{groundRanges};
+ghost use Rattle.table.specs.Node.{nodeOf, sideLevel, TakesVariable};
 
 // What may stand at a node.
 pub enum Level {
@@ -21,89 +22,58 @@ pub enum Node {
     Bad,
 }
 
-// The level and the number of a node's children.
-pub enum Below {
-    Are(Level, usize),
+// What one turn of a walk comes to: the place behind what it took, and how many more terms of its level are to come.
+pub enum Turn {
+    On(usize, usize),
     Bad,
 }
 
+// What a variable's datum is, and a call's.
+fn variable(d: i64) -> Node
+    ensures { λ r. ⌜ r ≡ nodeOf (pos 3) d ⌝ }
+{
+    let v = natural(d);
+    if 15 < v {
+        return Node::Bad;
+    }
+    Node::Variable(v)
+}
+
+fn call(d: i64) -> Node
+    ensures { λ r. ⌜ r ≡ nodeOf (pos 4) d ⌝ }
+{
+    let code = natural(d);
+    if 14 < code {
+        return Node::Bad;
+    }
+    Node::Call(term::arity(code))
+}
+
 // What two words are.
-pub fn classify(t: i64, d: i64) -> Node
+pub fn classify(ranges: &[i64; 32], t: i64, d: i64) -> Node
+    requires { ⌜ now ranges ≡ groundRanges ⌝ }
     ensures { λ r. ⌜ r ≡ nodeOf t d ⌝ }
 {
-    let Count::Is(k) = term::child_count(t, d) else {
-        return Node::Bad;
-    };
-    let tag = natural(t);
-    if tag == 3 {
-        return Node::Variable(natural(d));
+    if t == 3 {
+        return variable(d);
     }
-    if tag == 4 {
-        return Node::Call(k);
+    if t == 4 {
+        return call(d);
     }
-    Node::Plain(k)
+    if term::ground::is_ground(ranges, t, d) {
+        return Node::Plain(term::children_by_tag(t));
+    }
+    Node::Bad
 }
 
-// The level of the children of a builtin value or a symbol.
-fn under_plain(level: Level) -> Level
-    ensures { λ r. ⌜ r ≡ underPlain level ⌝ }
-{
-    match level {
-        Level::Left => Level::Left,
-        Level::Right => Level::Right,
-        Level::Expression => Level::Ground,
-        Level::Ground => Level::Ground,
-    }
-}
-
-// "A left has no call", and a ground term has none.
-fn takes_call(level: Level) -> bool
-    ensures { λ r. ⌜ r ≡ takesCall level ⌝ }
-{
-    match level {
-        Level::Left => false,
-        Level::Right => true,
-        Level::Expression => true,
-        Level::Ground => false,
-    }
-}
-
-// A left's variable is flagged; elsewhere it must have been.
-fn takes_variable(level: Level, v: usize, seen: &mut [bool; 16]) -> bool
+// A left's variable is flagged; a right's must have been.
+pub fn takes_variable(left: bool, v: usize, seen: &mut [bool; 16]) -> bool
     requires { ⌜ v < 16 ⌝ }
-    ensures { λ r. ⌜ TakesVariable level v (now (seen .entry)) (now (seen .exit)) r ⌝ }
+    ensures { λ r. ⌜ TakesVariable (sideLevel left) v (now (seen .entry)) (now (seen .exit)) r ⌝ }
 {
-    match level {
-        Level::Left => {
-            seen[v] = true;
-            true
-        }
-        Level::Right => seen[v],
-        Level::Expression => seen[v],
-        Level::Ground => false,
+    if left {
+        seen[v] = true;
+        return true;
     }
-}
-
-// Whether a node may stand at a level, and what its children are then.
-pub fn admit(level: Level, t: i64, d: i64, seen: &mut [bool; 16]) -> Below
-    ensures { λ r. ⌜ Admits level t d (now (seen .entry)) (now (seen .exit)) r ⌝ }
-{
-    match classify(t, d) {
-        Node::Plain(k) => Below::Are(under_plain(level), k),
-        Node::Call(k) => {
-            if takes_call(level) {
-                Below::Are(Level::Expression, k)
-            } else {
-                Below::Bad
-            }
-        }
-        Node::Variable(v) => {
-            if takes_variable(level, v, seen) {
-                Below::Are(level, 0)
-            } else {
-                Below::Bad
-            }
-        }
-        Node::Bad => Below::Bad,
-    }
+    seen[v]
 }

@@ -3,6 +3,8 @@ use crate::node::Level;
 use crate::number::natural;
 use crate::walk::part_end;
 use term::Place;
+ghost use mathlib.Core.Path.{_≡_};
+ghost use Rattle.term.specs.Datum.{groundRanges};
 ghost use Rattle.table.specs.Rule.{ConditionsContract, RuleIs};
 
 // The starts of a rule's right and of its conditions, and its end.
@@ -12,16 +14,23 @@ pub enum Parts {
 }
 
 // The place behind the conditions that start at a place: two expressions each.
-fn conditions_end(table: &[i64], at: usize, count: usize, seen: &mut [bool; 16]) -> Place
+fn conditions_end(
+    table: &[i64],
+    at: usize,
+    count: usize,
+    seen: &mut [bool; 16],
+    ranges: &[i64; 32],
+) -> Place
+    requires { ⌜ now ranges ≡ groundRanges ⌝ }
     ensures { λ r. ⌜ ConditionsContract (now (table .entry)) at count (now (seen .entry)) (now (seen .exit)) r ⌝ }
 {
     let mut i = at;
     let mut k = count;
     while 0 < k {
-        let Place::At(second) = part_end(table, i, Level::Expression, seen) else {
+        let Place::At(second) = part_end(table, i, Level::Expression, seen, ranges) else {
             return Place::Nowhere;
         };
-        let Place::At(end) = part_end(table, second, Level::Expression, seen) else {
+        let Place::At(end) = part_end(table, second, Level::Expression, seen, ranges) else {
             return Place::Nowhere;
         };
         i = end;
@@ -31,7 +40,8 @@ fn conditions_end(table: &[i64], at: usize, count: usize, seen: &mut [bool; 16])
 }
 
 // The parts of the rule that starts at a place.
-pub fn rule_parts(table: &[i64], at: usize) -> Parts
+pub fn rule_parts(table: &[i64], at: usize, ranges: &[i64; 32]) -> Parts
+    requires { ⌜ now ranges ≡ groundRanges ⌝ }
     ensures { λ r. ⌜ RuleIs (now (table .entry)) at r ⌝ }
 {
     let n = table.len();
@@ -49,13 +59,13 @@ pub fn rule_parts(table: &[i64], at: usize) -> Parts
         return Parts::Nowhere;
     }
     let mut seen = [false; 16];
-    let Place::At(right) = part_end(table, at + 2, Level::Left, &mut seen) else {
+    let Place::At(right) = part_end(table, at + 2, Level::Left, &mut seen, ranges) else {
         return Parts::Nowhere;
     };
-    let Place::At(conditions) = part_end(table, right, Level::Right, &mut seen) else {
+    let Place::At(conditions) = part_end(table, right, Level::Right, &mut seen, ranges) else {
         return Parts::Nowhere;
     };
-    let Place::At(end) = conditions_end(table, conditions, count, &mut seen) else {
+    let Place::At(end) = conditions_end(table, conditions, count, &mut seen, ranges) else {
         return Parts::Nowhere;
     };
     Parts::At(right, conditions, end)

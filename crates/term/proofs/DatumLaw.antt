@@ -98,7 +98,7 @@ number : (d : ℤ) (most : ℕ) → ltZ d (pos 0) ≡ false → ltZ (pos most) d
 number (pos n) most l h = (n, refl, ltb-false most n h)
 number (negsuc n) most l h = absurd (true≢false l)
 
-nothing : (d : ℤ) → ltZ d (pos 0) ≡ false → ltZ (negsuc 0) d ≡ false → ⊥
+pub nothing : (d : ℤ) → ltZ d (pos 0) ≡ false → ltZ (negsuc 0) d ≡ false → ⊥
 nothing (pos n) l h = true≢false h
 nothing (negsuc n) l h = true≢false l
 

@@ -3,6 +3,7 @@ pub mod TermEndLaw
 pub mod NodeLaw
 pub mod RoleLaw
 pub mod DatumLaw
+pub mod GroundLaw
 pub mod ExtentLaw
 pub mod CheckLaw
 pub mod ChildrenLaw

@@ -13,7 +13,7 @@ use lib.Seq.{drop-cons}
 use Rattle.minuska.proofs.Tests.{came}
 use Rattle.minuska.specs.Basics.{_>>=_}
 use Rattle.minuska.specs.Term.{Label}
-use Rattle.term.specs.TermEnd.{anyLabel, labelTest, childrenIf, extent, countOf, placeOf, childCountOf, childCountIf, termEnd, termEndIf}
+use Rattle.term.specs.TermEnd.{anyLabel, groundLabel, groundTermsEnd, labelTest, childrenIf, extent, countOf, placeOf, childCountOf, termEnd, termEndIf}
 use Rattle.term.specs.declared.Count.the-variants.{Is, Bad}
 use Rattle.term.specs.declared.Place.the-variants.{At, Nowhere}
 
@@ -26,11 +26,11 @@ pub term-end-is : (ws : List ℤ) (at : ℕ) → termEnd ws at ≡ placeOf at (e
 unfolding termEnd
 term-end-is ws at = refl
 
-module _ (ground : Bool) where
-  pub child-count-if-is : (t d : ℤ) → childCountIf ground t d ≡ countOf (childrenIf (labelTest ground) t d)
-  unfolding childCountIf
-  child-count-if-is t d = refl
+pub ground-terms-are : (ws : List ℤ) (at k : ℕ) → groundTermsEnd ws at k ≡ placeOf at (extent groundLabel (drop at ws) k)
+unfolding groundTermsEnd
+ground-terms-are ws at k = refl
 
+module _ (ground : Bool) where
   pub term-end-if-is : (ws : List ℤ) (at : ℕ) → termEndIf ground ws at ≡ placeOf at (extent (labelTest ground) (drop at ws) 1)
   unfolding termEndIf
   term-end-if-is ws at = refl

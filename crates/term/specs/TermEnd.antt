@@ -1,4 +1,5 @@
 -- What the routines answer: a node's child count, and the place behind a term whose labels pass a test.
+use mathlib.Core.Path.{_≡_}
 use mathlib.Core.Bool.{Bool, true, false}
 use mathlib.Core.Option.{Option, none, some}
 use mathlib.Core.List.{List, [], _∷_}
@@ -46,12 +47,9 @@ abbrev pub placeOf : ℕ → Option ℕ → Place
 placeOf at none = Nowhere
 placeOf at (some m) = At (at + m)
 
--- SHUT NAMES, which contracts cite. The child count that two words say, if they are a node's; if `ground`, a ground term's node's.
+-- SHUT NAMES, which contracts cite. The child count that two words say, if they are a node's.
 unfoldable pub childCountOf : ℤ → ℤ → Count
 childCountOf t d = countOf (childrenIf anyLabel t d)
-
-unfoldable pub childCountIf : Bool → ℤ → ℤ → Count
-childCountIf ground t d = countOf (childrenIf (labelTest ground) t d)
 
 -- The place behind the term that starts at a place; if `ground`, behind the ground term.
 unfoldable pub termEnd : List ℤ → ℕ → Place
@@ -60,6 +58,10 @@ termEnd ws at = placeOf at (extent anyLabel (drop at ws) 1)
 unfoldable pub termEndIf : Bool → List ℤ → ℕ → Place
 termEndIf ground ws at = placeOf at (extent (labelTest ground) (drop at ws) 1)
 
+-- The place behind so many ground terms that start at a place.
+unfoldable pub groundTermsEnd : List ℤ → ℕ → ℕ → Place
+groundTermsEnd ws at k = placeOf at (extent groundLabel (drop at ws) k)
+
 -- The column "children": a function's arity ("by function"); any other node's count, by its tag alone ("0", "tag minus 8").
 unfoldable pub arityOf : ℕ → ℕ
 arityOf code = functionAt code .arity
@@ -67,3 +69,7 @@ arityOf code = functionAt code .arity
 unfoldable pub childrenByTag : ℤ → ℕ
 childrenByTag (pos t) = t - 8
 childrenByTag (negsuc t) = 0
+
+-- What a test of two words says: whether they are a ground term's node. Its child count is then its tag's.
+pub record GroundNode (t d : ℤ) (passes : Bool) : Type 0 where
+  pub children : childrenIf groundLabel t d ≡ provided passes (childrenByTag t)

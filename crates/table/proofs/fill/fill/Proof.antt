@@ -16,10 +16,10 @@ use Rattle.table.proofs.fill.fill.Statement.{statement}
 use Rattle.table.proofs.fill.fill.Tie as tie
 
 abbrev Inv-loop : tie.InvT-loop
-Inv-loop table index₀ n count at₀ rule₀ index at rule = (length index ≡ length index₀) × Reached table index₀ index count rule at
+Inv-loop table index₀ ranges n count at₀ rule₀ index at rule = (length index ≡ length index₀) × Reached table index₀ index count rule at
 
 abbrev μ-loop : tie.MeasureT-loop
-μ-loop table index₀ n count at₀ rule₀ index at rule = count - rule
+μ-loop table index₀ ranges n count at₀ rule₀ index at rule = count - rule
 
 -- the first word's number
 count-is : (c : tie.After-natural Inv-loop μ-loop) → c .natural .result ≡ naturalOf (getD (c .before .before .before .before .before .args .table .now) 0 (pos 0))
@@ -47,7 +47,7 @@ loop-holds c =
     let p = count-is (c .before) in
     let ws = c .before .before .before .before .before .before .args .table .now in
     let old = c .before .before .before .before .before .before .args .index .now in
-    (refl, subst⁻¹ (λ (k : ℕ). Reached ws old old k 0 1) p (starts ws old (omega arith) (omega arith) (omega arith) (c .before .before .before .before .before .before .pre)))
+    (refl, subst⁻¹ (λ (k : ℕ). Reached ws old old k 0 1) p (starts ws old (omega arith) (omega arith) (omega arith) (c .before .before .before .before .before .before .pre .0)))
 
 rule-parts-requires : tie.Need-rule-parts-requires Inv-loop μ-loop
 rule-parts-requires c κs = search needs

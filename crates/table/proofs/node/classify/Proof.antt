@@ -1,63 +1,68 @@
-use mathlib.Core.Path.{sym, _∙_, ap}
+-- `classify` meets its contract.
+use mathlib.Core.Path.{_≡_, sym, _∙_, ap, subst}
+use mathlib.Core.Bool.{Bool, true, false}
 use borrow.Author.Needs.{needs}
-use Rattle.term.specs.TermEnd.{childCountOf}
-use Rattle.table.specs.Number.{naturalOf}
+use lib.IntN.{ℤ, pos}
+use mir.Syntax.{w64}
+use mir.Val.{ofZ}
+use Rattle.term.proofs.SignedLaw.{with-bits}
+use Rattle.term.specs.TermEnd.{childrenByTag, GroundNode}
+use Rattle.table.specs.Node.{nodeOf}
 use Rattle.table.specs.declared.node.Node.the-variants as N
-use Rattle.table.proofs.NumberLaw.{via, via₂}
-use Rattle.table.proofs.NodeLaw.{node-bad, node-variable, node-call, node-plain}
+use Rattle.table.proofs.NumberLaw.{via, said₂}
+use Rattle.table.proofs.NodeLaw.{a-plain, no-plain}
 use Rattle.table.proofs.node.classify.Statement.{statement}
 use Rattle.table.proofs.node.classify.Tie as tie
 
-child-count-requires : tie.Need-child-count-requires
-child-count-requires c κs = search needs
-
-enum-known-k : tie.Need-enum-known-k
-enum-known-k c = search needs
-
-enum-told : tie.Need-enum-told
-enum-told c = search needs
+variable-requires : tie.Need-variable-requires
+variable-requires c κs = search needs
 
 returns : tie.Need-returns
 returns c =
-    let s = c .before .before .before in
-    node-bad (s .args .t) (s .args .d) (sym (c .enum-told .given .1) ∙ via₂ childCountOf (s .fits .t) (s .fits .d) (c .before .before .child-count .ensures))
+    let s = c .before .before in
+    via (nodeOf (pos 3)) (s .fits .d) (c .variable .ensures) ∙ ap (λ (t : ℤ). nodeOf t (s .args .d)) (sym (with-bits (s .args .t) 3 (s .fits .t) (c .before .if1 .taken)))
 
-natural-requires : tie.Need-natural-requires
-natural-requires c κs = search needs
-
-natural-requires-2 : tie.Need-natural-requires-2
-natural-requires-2 c κs = search needs
+call-requires : tie.Need-call-requires
+call-requires c κs = search needs
 
 returns-2 : tie.Need-returns-2
 returns-2 c =
-    let s = c .before .before .before .before .before .before .before in
-    let e = sym (c .before .before .before .before .k .given .1) ∙ via₂ childCountOf (s .fits .t) (s .fits .d) (c .before .before .before .before .before .before .child-count .ensures) in
-    let tag = sym (via naturalOf (s .fits .t) (c .before .before .natural .ensures)) ∙ c .before .if1 .taken in
-    ap N.Variable (via naturalOf (s .fits .d) (c .natural2 .ensures)) ∙ node-variable (s .args .t) (s .args .d) (c .before .before .before .before .k .given .0 .0) e tag
+    let s = c .before .before .before in
+    via (nodeOf (pos 4)) (s .fits .d) (c .call .ensures) ∙ ap (λ (t : ℤ). nodeOf t (s .args .d)) (sym (with-bits (s .args .t) 4 (s .fits .t) (c .before .if2 .taken)))
+
+is-ground-requires : tie.Need-is-ground-requires
+is-ground-requires c κs = search needs
+
+-- what the test says of the two words
+tested : (c : tie.After-is-ground) (b : Bool) → c .is-ground .result ≡ b → GroundNode (c .before .before .before .args .t) (c .before .before .before .args .d) b
+tested c b e =
+    let s = c .before .before .before in
+    subst (GroundNode (s .args .t) (s .args .d)) e (said₂ (λ (x y : ℤ). GroundNode x y (c .is-ground .result)) (s .fits .t) (s .fits .d) (c .is-ground .ensures))
+
+children-by-tag-requires : tie.Need-children-by-tag-requires
+children-by-tag-requires c κs = search needs
 
 returns-3 : tie.Need-returns-3
 returns-3 c =
-    let s = c .before .before .before .before .before .before .before in
-    let e = sym (c .before .before .before .before .k .given .1) ∙ via₂ childCountOf (s .fits .t) (s .fits .d) (c .before .before .before .before .before .before .child-count .ensures) in
-    node-call (s .args .t) (s .args .d) (c .before .before .before .before .k .given .0 .0) e (sym (via naturalOf (s .fits .t) (c .before .before .natural .ensures)) ∙ c .if2 .taken)
+    let u = c .before .before in
+    let s = u .before .before .before in
+    ap N.Plain (via childrenByTag (s .fits .t) (c .children-by-tag .ensures)) ∙ a-plain (s .args .t) (s .args .d) (tested u true (c .before .if3 .taken))
 
 returns-4 : tie.Need-returns-4
 returns-4 c =
-    let s = c .before .before .before .before .before .before .before in
-    let e = sym (c .before .before .before .before .k .given .1) ∙ via₂ childCountOf (s .fits .t) (s .fits .d) (c .before .before .before .before .before .before .child-count .ensures) in
-    let n = via naturalOf (s .fits .t) (c .before .before .natural .ensures) in
-    node-plain (s .args .t) (s .args .d) (c .before .before .before .before .k .given .0 .0) e (λ q. c .before .if1 .left (n ∙ q)) (λ q. c .if2 .left (n ∙ q))
+    let u = c .before in
+    let s = u .before .before .before in
+    no-plain (s .args .t) (s .args .d) (tested u false (c .if3 .left)) (λ e. u .before .before .if1 .left (ap (ofZ w64) e)) (λ e. u .before .if2 .left (ap (ofZ w64) e))
 
 pub classify-spec : {M : Type 1} → statement M
 classify-spec =
     tie.close
     (tie.spec
-    child-count-requires
-    enum-known-k
-    enum-told
+    variable-requires
     returns
-    natural-requires
-    natural-requires-2
+    call-requires
     returns-2
+    is-ground-requires
+    children-by-tag-requires
     returns-3
     returns-4)

@@ -11,10 +11,10 @@ use Rattle.table.proofs.rule.conditions_end.Statement.{statement}
 use Rattle.table.proofs.rule.conditions_end.Tie as tie
 
 abbrev Inv-loop : tie.InvT-loop
-Inv-loop table at count seen₀ i₀ k₀ seen i k = (seen ≡ seen₀) × (conditionsEnd count table seen₀ at ≡ conditionsEnd k table seen₀ i)
+Inv-loop table at count seen₀ ranges i₀ k₀ seen i k = (seen ≡ seen₀) × (conditionsEnd count table seen₀ at ≡ conditionsEnd k table seen₀ i)
 
 abbrev μ-loop : tie.MeasureT-loop
-μ-loop table at count seen₀ i₀ k₀ seen i k = k
+μ-loop table at count seen₀ ranges i₀ k₀ seen i k = k
 
 loop-holds : tie.Need-loop-holds Inv-loop μ-loop
 loop-holds c = (refl, refl)

@@ -1,0 +1,114 @@
+-- `is_ground` meets its contract: two words are a ground node's exactly if the datum is in the tag's ground range.
+use mathlib.Core.Path.{_≡_, sym, _∙_, ap, ap₂, subst}
+use mathlib.Core.Bool.{Bool, true, false}
+use mathlib.Core.List.{List}
+use Prim.Native.Nat.{ℕ, _+_, _<_}
+use native.Mathlib.Omega.{arith}
+use borrow.Author.Needs.{needs, sfits-of}
+use lib.IntN.{ℤ, pos, natAbs}
+use lib.ListN.{getD}
+use lib.Signed.{ltZ}
+use mir.Syntax.{w64}
+use mir.Val.{SFits, toZ, ofZ}
+use mir.ValLaws.{toZ-ofZ}
+use Rattle.term.specs.Datum.{groundLeasts, groundMosts}
+use Rattle.term.specs.TermEnd.{GroundNode}
+use Rattle.term.proofs.SignedLaw.{Natural, natural, order}
+use Rattle.term.proofs.DatumLaw.{low-tag, high-tag}
+use Rattle.term.proofs.GroundLaw.{least-at, most-at, no-ground, below-ground, above-ground, in-ground}
+use Rattle.term.proofs.ground.is_ground.Statement.{statement}
+use Rattle.term.proofs.ground.is_ground.Tie as tie
+
+returns : tie.Need-returns
+returns c = let a = c .before .args in no-ground (a .t) (a .d) (low-tag (a .t) (a .d) (rw (toZ-ofZ w64 (a .t) (c .before .fits .t)) at (c .if1 .taken)))
+
+-- the tag as a number, and an answer about that number
+module _ (c : tie.Else1) where
+  tag : Natural (c .before .args .t) 0
+  tag = natural (c .before .args .t) 0 (c .before .fits .t) (c .if1 .left)
+
+  by-tag : {r : Bool} → GroundNode (pos (tag .number)) (c .before .args .d) r → GroundNode (c .before .args .t) (c .before .args .d) r
+  by-tag {r} g = subst (λ (t : ℤ). GroundNode t (c .before .args .d) r) (tag .is) g
+
+cast-tag : tie.Need-cast-tag
+cast-tag c = tag c .cast
+
+returns-2 : tie.Need-returns-2
+returns-2 c =
+    let u = c .before in
+    let a = u .before .args in
+    by-tag u (no-ground (pos (tag u .number)) (a .d) (high-tag (tag u .number) (a .d) (u .before .fits .d) (rw (tag u .gives) at (c .if2 .taken))))
+
+mul-if3 : tie.Need-mul-if3
+mul-if3 c = search needs
+
+element-copy-out-if3 : tie.Need-element-copy-out-if3
+element-copy-out-if3 c = search needs
+
+small : (c : tie.Else2) → tag (c .before) .number < 16
+small c = let g = tag (c .before) .gives in let h = c .if2 .left in omega arith
+
+-- the datum is below the range, or not
+module _ (c : tie.After-if32) where
+  from : getD (c .before .before .before .args .ranges .now) (natAbs (toZ w64 (ofZ w64 (c .before .before .before .args .t)))) (pos 0) ≡ getD groundLeasts (tag (c .before .before) .number) (pos 0)
+  from = ap₂ (λ (l : List ℤ) (n : ℕ). getD l n (pos 0)) (c .before .before .before .pre) (tag (c .before .before) .gives) ∙ least-at (tag (c .before .before) .number) (small (c .before))
+
+  below : (r : Bool) → ltZ (toZ w64 (ofZ w64 (c .before .before .before .args .d))) (toZ w64 (ofZ w64 (getD (c .before .before .before .args .ranges .now) (natAbs (toZ w64 (ofZ w64 (c .before .before .before .args .t)))) (pos 0)))) ≡ r → ltZ (c .before .before .before .args .d) (getD groundLeasts (tag (c .before .before) .number) (pos 0)) ≡ r
+  below r h =
+      let d = c .before .before .before .args .d in
+      ap (ltZ d) (sym from) ∙ order d (getD (c .before .before .before .args .ranges .now) (natAbs (toZ w64 (ofZ w64 (c .before .before .before .args .t)))) (pos 0)) r (c .before .before .before .fits .d) (sfits-of (c .if32 .given)) h
+
+returns-3 : tie.Need-returns-3
+returns-3 c =
+    let u = c .before .before in
+    let v = u .before in
+    by-tag v (below-ground (tag v .number) (v .before .args .d) (small u) (v .before .fits .d) (below (c .before) true (c .if3 .taken)))
+
+add-if4 : tie.Need-add-if4
+add-if4 c = search needs
+
+mul-if4 : tie.Need-mul-if4
+mul-if4 c = search needs
+
+element-copy-out-if4 : tie.Need-element-copy-out-if4
+element-copy-out-if4 c = search needs
+
+-- above it, or not
+module _ (c : tie.After-if42) where
+  to : getD (c .before .before .before .before .before .args .ranges .now) (natAbs (toZ w64 (ofZ w64 (c .before .before .before .before .before .args .t))) + 16) (pos 0) ≡ getD groundMosts (tag (c .before .before .before .before) .number) (pos 0)
+  to =
+      let n = tag (c .before .before .before .before) .number in
+      ap₂ (λ (l : List ℤ) (n : ℕ). getD l (n + 16) (pos 0)) (c .before .before .before .before .before .pre) (tag (c .before .before .before .before) .gives) ∙ most-at n
+
+  above : (r : Bool) → ltZ (toZ w64 (ofZ w64 (getD (c .before .before .before .before .before .args .ranges .now) (natAbs (toZ w64 (ofZ w64 (c .before .before .before .before .before .args .t))) + 16) (pos 0)))) (toZ w64 (ofZ w64 (c .before .before .before .before .before .args .d))) ≡ r → ltZ (getD groundMosts (tag (c .before .before .before .before) .number) (pos 0)) (c .before .before .before .before .before .args .d) ≡ r
+  above r h =
+      let d = c .before .before .before .before .before .args .d in
+      ap (λ (z : ℤ). ltZ z d) (sym to) ∙ order (getD (c .before .before .before .before .before .args .ranges .now) (natAbs (toZ w64 (ofZ w64 (c .before .before .before .before .before .args .t))) + 16) (pos 0)) d r (sfits-of (c .if42 .given)) (c .before .before .before .before .before .fits .d) h
+
+returns-4 : tie.Need-returns-4
+returns-4 c =
+    let u = c .before .before .before .before in
+    let v = u .before in
+    by-tag v (above-ground (tag v .number) (v .before .args .d) (small u) (v .before .fits .d) (above (c .before) true (c .if4 .taken)))
+
+returns-5 : tie.Need-returns-5
+returns-5 c =
+    let u = c .before .before .before .before in
+    let v = u .before in
+    by-tag v (in-ground (tag v .number) (v .before .args .d) (small u) (below (c .before .before .before) false (c .before .before .if3 .left)) (above (c .before) false (c .if4 .left)))
+
+pub is-ground-spec : {M : Type 1} → statement M
+is-ground-spec =
+    tie.close
+    (tie.spec
+    returns
+    cast-tag
+    returns-2
+    mul-if3
+    element-copy-out-if3
+    returns-3
+    add-if4
+    mul-if4
+    element-copy-out-if4
+    returns-4
+    returns-5)

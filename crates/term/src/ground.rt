@@ -1,0 +1,98 @@
+// The walk over ground terms whose words are not checked yet.
+use crate::Place;
+use crate::children_by_tag;
+use crate::word;
+ghost use mathlib.Core.Path.{_≡_};
+ghost use Prim.Native.Nat.{_≤_};
+ghost use lib.ListN.{length};
+ghost use Rattle.term.specs.Datum.{groundRanges};
+ghost use Rattle.term.specs.TermEnd.{GroundNode, groundTermsEnd};
+
+const VARIABLE: i64 = -1;
+
+const CALL: i64 = -1;
+
+const NO_NODE: i64 = -1;
+
+const SYMBOL: i64 = 4095;
+
+// The range of a ground term's datum by tag: sixteen times the least, then sixteen times the most. A tag that it has none of has an empty range.
+// The walks are lent this list, so that it is laid out once and not at every node.
+pub const RANGES: [i64; 32] = [
+    0,
+    0,
+    -9223372036854775808,
+    0,
+    0,
+    0,
+    0,
+    0,
+    0,
+    0,
+    0,
+    0,
+    0,
+    0,
+    0,
+    0,
+    0,
+    1,
+    9223372036854775807,
+    VARIABLE,
+    CALL,
+    NO_NODE,
+    NO_NODE,
+    NO_NODE,
+    SYMBOL,
+    SYMBOL,
+    SYMBOL,
+    SYMBOL,
+    SYMBOL,
+    SYMBOL,
+    SYMBOL,
+    SYMBOL,
+];
+
+// Whether two words are a node of a ground term.
+pub fn is_ground(ranges: &[i64; 32], t: i64, d: i64) -> bool
+    requires { ⌜ now ranges ≡ groundRanges ⌝ }
+    ensures { λ r. ⌜ GroundNode t d r ⌝ }
+{
+    if t < 0 {
+        return false;
+    }
+    let tag = t as usize;
+    if 15 < tag {
+        return false;
+    }
+    if d < ranges[tag] {
+        return false;
+    }
+    if ranges[tag + 16] < d {
+        return false;
+    }
+    true
+}
+
+// The place behind so many ground terms that start at a place: `k` are still to come.
+pub fn ground_terms(s: &[i64], at: usize, count: usize, ranges: &[i64; 32]) -> Place
+    requires { ⌜ (at ≤ length (now s)) × (count ≤ 7) × (now ranges ≡ groundRanges) ⌝ }
+    ensures { λ r. ⌜ r ≡ groundTermsEnd (now (s .entry)) at count ⌝ }
+{
+    let n = s.len();
+    let mut i = at;
+    let mut k = count;
+    while 0 < k {
+        if n - i < 2 {
+            return Place::Nowhere;
+        }
+        let t = word(s, i);
+        let d = word(s, i + 1);
+        if !is_ground(ranges, t, d) {
+            return Place::Nowhere;
+        }
+        k = k - 1 + children_by_tag(t);
+        i += 2;
+    }
+    Place::At(i)
+}
