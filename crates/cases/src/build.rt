@@ -1,55 +1,5 @@
-// Slices of words, built piece by piece. A place out of range is left alone.
-
-// The sample table of document 01.
-pub const SAMPLE: [i64; 47] = [
-    3,
-    10,
-    1,
-    9,
-    1,
-    3,
-    0,
-    9,
-    1,
-    4,
-    9,
-    3,
-    0,
-    2,
-    1,
-    4,
-    12,
-    2,
-    0,
-    3,
-    0,
-    1,
-    1,
-    10,
-    0,
-    9,
-    1,
-    3,
-    0,
-    10,
-    2,
-    3,
-    0,
-    9,
-    1,
-    3,
-    0,
-    20,
-    0,
-    10,
-    2,
-    3,
-    0,
-    3,
-    1,
-    3,
-    1,
-];
+// Words read from a text, and parts of slices. A place out of range is left alone.
+use value::builtin::Scalar;
 
 // The first words of a slice; all, if there are fewer.
 pub fn front(words: &[i64], n: usize) -> &[i64] {
@@ -59,13 +9,12 @@ pub fn front(words: &[i64], n: usize) -> &[i64] {
     &words[0..n]
 }
 
-// The words from a place on; all, if there is no such place.
-pub fn back(words: &[i64], n: usize) -> &[i64] {
-    let end = words.len();
-    if end < n {
-        return words;
+// The first numbers of a slice; all, if there are fewer.
+pub fn first(numbers: &[u16], n: usize) -> &[u16] {
+    if numbers.len() < n {
+        return numbers;
     }
-    &words[n..end]
+    &numbers[0..n]
 }
 
 // A word at a place, and the place behind it.
@@ -77,49 +26,128 @@ pub fn word(words: &mut [i64], at: usize, v: i64) -> usize {
     at
 }
 
-// Words from a place on, and the place behind them.
-pub fn append(words: &mut [i64], at: usize, part: &[i64]) -> usize {
-    let mut next = at;
+// A word as a number; a word below 0 is the largest number.
+pub fn number(z: i64) -> usize {
+    if z < 0 {
+        18446744073709551615
+    } else {
+        z as usize
+    }
+}
+
+// A word as a number of 16 bits; the largest, if it is none.
+pub fn short(z: i64) -> u16 {
+    let n = number(z);
+    if n < 65536 { n as u16 } else { 65535 }
+}
+
+// 0 less a word.
+pub fn negated(z: i64) -> i64 {
+    match value::builtin::minus(0, z) {
+        Scalar::Whole(m) => m,
+        _ => z,
+    }
+}
+
+// A number's digits so far, and one more; a number past 64 bits is the largest.
+pub fn with_digit(value: usize, byte: u8) -> usize {
+    if byte < b'0' {
+        return value;
+    }
+    if b'9' < byte {
+        return value;
+    }
+    if 1844674407370955160 < value {
+        return 18446744073709551615;
+    }
+    value * 10 + (byte - b'0') as usize
+}
+
+// A word by its size and sign; past 2^63 - 1 only -2^63 is a word.
+fn signed(size: usize, minus: bool) -> i64 {
+    if 9223372036854775807 < size {
+        return -9223372036854775808;
+    }
+    if minus {
+        return negated(size as i64);
+    }
+    size as i64
+}
+
+// How many words stand, and what is known of the next one.
+struct Reading {
+    count: usize,
+    started: bool,
+    minus: bool,
+    size: usize,
+}
+
+fn is_digit(byte: u8) -> bool {
+    if byte < b'0' {
+        return false;
+    }
+    byte <= b'9'
+}
+
+// One byte more.
+fn with_byte(r: Reading, byte: u8, words: &mut [i64]) -> Reading {
+    if is_digit(byte) {
+        return Reading {
+            count: r.count,
+            started: true,
+            minus: r.minus,
+            size: with_digit(r.size, byte),
+        };
+    }
+    if r.started {
+        return Reading {
+            count: word(words, r.count, signed(r.size, r.minus)),
+            started: false,
+            minus: byte == b'-',
+            size: 0,
+        };
+    }
+    Reading {
+        count: r.count,
+        started: false,
+        minus: byte == b'-',
+        size: 0,
+    }
+}
+
+// The words of a text, parted by other bytes, at the start of a slice; and how many.
+pub fn words(text: &[u8], words: &mut [i64]) -> usize {
+    let mut r = Reading {
+        count: 0,
+        started: false,
+        minus: false,
+        size: 0,
+    };
     let mut i = 0;
-    while i < part.len() {
-        next = word(words, next, term::word(part, i));
+    while i < text.len() {
+        r = with_byte(r, text[i], words);
         i += 1;
     }
-    next
+    let last = with_byte(r, b' ', words);
+    last.count
 }
 
-// The same words so many times.
-pub fn repeat(words: &mut [i64], at: usize, part: &[i64], count: usize) -> usize {
-    let mut next = at;
-    let mut k = 0;
-    while k < count {
-        next = append(words, next, part);
-        k += 1;
-    }
-    next
-}
-
-// A chain of so many nodes from a place on, and the place behind it.
-pub fn chain(words: &mut [i64], at: usize, nodes: usize) -> usize {
-    if nodes == 0 {
-        return at;
-    }
-    let next = repeat(words, at, &[9, 0], nodes - 1);
-    append(words, next, &[8, 0])
-}
-
-// A number at a place.
-pub fn put(numbers: &mut [u16], at: usize, v: u16) {
+// A number of 16 bits at a place, and the place behind it.
+fn put(numbers: &mut [u16], at: usize, v: u16) -> usize {
     if at < numbers.len() {
         numbers[at] = v;
+        return at + 1;
     }
+    at
 }
 
-// The numbers from a place up to another become v.
-pub fn put_all(numbers: &mut [u16], from: usize, to: usize, v: u16) {
-    let mut i = from;
-    while i < to {
-        put(numbers, i, v);
+// Words as numbers of 16 bits, as many as there is room for; and how many.
+pub fn shorts(words: &[i64], to: &mut [u16]) -> usize {
+    let mut next = 0;
+    let mut i = 0;
+    while i < words.len() {
+        next = put(to, next, short(term::word(words, i)));
         i += 1;
     }
+    next
 }

@@ -1,16 +1,14 @@
-// Runs what is not proved as a theorem; stdout has the expected answers, written from document 01.
+// Runs the cases that standard input lists, a line each; stdout has the expected answers. README.md has the form of a line.
+use libc::STDIN_FILENO;
+
 mod build;
-mod limits;
-mod replays;
-mod runs;
+mod call;
+mod script;
 mod show;
-mod steps;
-mod values;
+mod text;
 
 fn main() {
-    values::all();
-    steps::all();
-    runs::all();
-    replays::all();
-    limits::all();
+    let mut input = [0u8; 32768];
+    let read = io::read_full(STDIN_FILENO, &mut input);
+    script::all(&input[..read]);
 }

@@ -20,23 +20,18 @@ pub fn number(n: usize) {
 pub fn whole(z: i64) {
     if z < 0 {
         text(b"-");
-        io::print_decimal(1, below_zero(z));
+        number(below_zero(z));
     } else {
-        io::print_decimal(1, from_zero(z));
+        number(crate::build::number(z));
     }
 }
 
 // The size of a word below 0.
-fn below_zero(z: i64) -> u64 {
+fn below_zero(z: i64) -> usize {
     match value::builtin::minus(0, z) {
-        Scalar::Whole(m) => from_zero(m),
+        Scalar::Whole(m) => crate::build::number(m),
         _ => 9223372036854775808,
     }
-}
-
-// A word from 0 on as a number.
-fn from_zero(z: i64) -> u64 {
-    if z < 0 { 0 } else { z as u64 }
 }
 
 pub fn end() {
@@ -181,14 +176,14 @@ fn widen(from: &[u16], to: &mut [i64]) -> usize {
     next
 }
 
-// A slice of choices, whole; `room` has as many words or more.
+// A slice of picks, whole; `room` has as many words or more.
 fn widened(name: &[u8], numbers: &[u16], room: &mut [i64]) {
     let n = widen(numbers, room);
     slice(name, crate::build::front(room, n));
 }
 
 // None here has more than 4,200.
-pub fn choices(name: &[u8], numbers: &[u16]) {
+pub fn picks(name: &[u8], numbers: &[u16]) {
     let mut room = [0i64; 4200];
     widened(name, numbers, &mut room);
 }

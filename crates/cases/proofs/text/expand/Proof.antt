@@ -1,22 +1,25 @@
--- `put_all` is safe and ends; the slice keeps its length.
+-- `expand` is safe and ends; the slice keeps its length.
 use borrow.Author.Needs.{needs}
 use mathlib.Core.Path.{_≡_}
 use Prim.Native.Nat.{_-_}
 use lib.ListN.{length}
-use Rattle.cases.proofs.build.put_all.Statement.{statement}
-use Rattle.cases.proofs.build.put_all.Tie as tie
+use Rattle.cases.proofs.text.expand.Statement.{statement}
+use Rattle.cases.proofs.text.expand.Tie as tie
 
 abbrev Inv-loop : tie.InvT-loop
-Inv-loop numbers₀ from to v i₀ numbers i = length numbers ≡ length numbers₀
+Inv-loop text opening closing to₀ w₀ i₀ to w i = length to ≡ length to₀
 
 abbrev μ-loop : tie.MeasureT-loop
-μ-loop numbers₀ from to v i₀ numbers i = to - i
+μ-loop text opening closing to₀ w₀ i₀ to w i = length text - i
 
 loop-holds : tie.Need-loop-holds Inv-loop μ-loop
 loop-holds c = search needs
 
-put-requires : tie.Need-put-requires Inv-loop μ-loop
-put-requires c κs = search needs
+shared-slice-read-with-byte : tie.Need-shared-slice-read-with-byte Inv-loop μ-loop
+shared-slice-read-with-byte c = search needs
+
+with-byte-requires : tie.Need-with-byte-requires Inv-loop μ-loop
+with-byte-requires c κs = search needs
 
 add-i : tie.Need-add-i Inv-loop μ-loop
 add-i c = search needs
@@ -33,14 +36,15 @@ same-length c = search needs
 returns : tie.Need-returns Inv-loop μ-loop
 returns c = search needs
 
-pub put-all-spec : {M : Type 1} → statement M
-put-all-spec =
+pub expand-spec : {M : Type 1} → statement M
+expand-spec =
     tie.close
     (tie.spec
     Inv-loop
     μ-loop
     loop-holds
-    put-requires
+    shared-slice-read-with-byte
+    with-byte-requires
     add-i
     loop-less
     loop-again

@@ -1,16 +1,16 @@
--- `repeat` is safe and ends; the slice keeps its length.
+-- `again` is safe and ends; the slice keeps its length.
 use borrow.Author.Needs.{needs}
 use mathlib.Core.Path.{_≡_}
 use Prim.Native.Nat.{_-_}
 use lib.ListN.{length}
-use Rattle.cases.proofs.build.repeat.Statement.{statement}
-use Rattle.cases.proofs.build.repeat.Tie as tie
+use Rattle.cases.proofs.text.again.Statement.{statement}
+use Rattle.cases.proofs.text.again.Tie as tie
 
 abbrev Inv-loop : tie.InvT-loop
-Inv-loop words₀ at part count next₀ k₀ words next k = length words ≡ length words₀
+Inv-loop to₀ at part times next₀ k₀ to next k = length to ≡ length to₀
 
 abbrev μ-loop : tie.MeasureT-loop
-μ-loop words₀ at part count next₀ k₀ words next k = count - k
+μ-loop to₀ at part times next₀ k₀ to next k = times - k
 
 loop-holds : tie.Need-loop-holds Inv-loop μ-loop
 loop-holds c = search needs
@@ -33,8 +33,8 @@ same-length c = search needs
 returns : tie.Need-returns Inv-loop μ-loop
 returns c = search needs
 
-pub repeat-spec : {M : Type 1} → statement M
-repeat-spec =
+pub again-spec : {M : Type 1} → statement M
+again-spec =
     tie.close
     (tie.spec
     Inv-loop

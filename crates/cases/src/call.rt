@@ -1,0 +1,185 @@
+// The calls: each prints its name, the answer, and every lent slice whole. Out held 77 before, spare 66, picks 99, work 55.
+use value::builtin::Scalar;
+
+fn named(name: &[u8]) {
+    crate::show::text(name);
+    crate::show::text(b": ");
+}
+
+pub fn table(name: &[u8], words: &[i64]) {
+    crate::show::text(b"table, ");
+    named(name);
+    crate::show::check(table::check_table(words));
+    crate::show::end();
+}
+
+pub fn configuration(name: &[u8], words: &[i64]) {
+    crate::show::text(b"configuration, ");
+    named(name);
+    crate::show::check(term::check_configuration(words));
+    crate::show::end();
+}
+
+// A node's two words as an argument.
+fn scalar(tag: i64, datum: i64) -> Scalar {
+    match tag {
+        1 => Scalar::Truth(datum == 1),
+        2 => Scalar::Whole(datum),
+        8 => Scalar::Symbol(crate::build::short(datum)),
+        _ => Scalar::Error,
+    }
+}
+
+// A function's code, and the nodes of three arguments.
+pub fn value(name: &[u8], a: &[i64; 8]) {
+    named(name);
+    let code = crate::build::number(a[0]);
+    crate::show::scalar(value::builtin::apply(
+        code,
+        scalar(a[1], a[2]),
+        scalar(a[3], a[4]),
+        scalar(a[5], a[6]),
+    ));
+    crate::show::end();
+}
+
+// The part at a place: its length, and its first words.
+pub fn part(name: &[u8], configuration: &[i64], place: usize) {
+    let words = term::subterm(configuration, place);
+    named(name);
+    crate::show::text(b"words ");
+    crate::show::number(words.len());
+    crate::show::slice(b";", crate::build::front(words, 4));
+    crate::show::end();
+}
+
+fn step_into<'a>(name: &[u8], table: &'a [i64], configuration: &'a [i64], out: &mut [i64]) {
+    named(name);
+    crate::show::stepped(step::step(table, configuration, out));
+    crate::show::slice(b"; out", out);
+    crate::show::end();
+}
+
+// A step by the earliest rule, with so many words of out.
+pub fn step<'a>(name: &[u8], table: &'a [i64], configuration: &'a [i64], out: usize) {
+    let mut words = [77i64; 90000];
+    if out <= 90000 {
+        step_into(name, table, configuration, &mut words[0..out]);
+    }
+}
+
+fn rule_into<'a>(
+    name: &[u8],
+    table: &'a [i64],
+    configuration: &'a [i64],
+    rule: usize,
+    out: &mut [i64],
+) {
+    named(name);
+    crate::show::stepped(step::step_by_rule(table, configuration, rule, out));
+    crate::show::slice(b"; out", out);
+    crate::show::end();
+}
+
+// A step by one given rule: its number, and the length of out.
+pub fn rule<'a>(name: &[u8], table: &'a [i64], configuration: &'a [i64], a: &[i64; 8]) {
+    let rule = crate::build::number(a[0]);
+    let out = crate::build::number(a[1]);
+    let mut words = [77i64; 90000];
+    if out <= 90000 {
+        rule_into(name, table, configuration, rule, &mut words[0..out]);
+    }
+}
+
+fn run_into<'a>(
+    name: &[u8],
+    table: &'a [i64],
+    configuration: &'a [i64],
+    budget: usize,
+    limit: usize,
+    out: &mut [i64],
+    spare: &mut [i64],
+) {
+    named(name);
+    crate::show::ran(run::run(table, configuration, budget, limit, out, spare));
+    crate::show::slice(b"; out", out);
+    crate::show::slice(b"; spare", spare);
+    crate::show::end();
+}
+
+// A run: budget, N, and the lengths of out and spare.
+pub fn run<'a>(name: &[u8], table: &'a [i64], configuration: &'a [i64], a: &[i64; 8]) {
+    let budget = crate::build::number(a[0]);
+    let limit = crate::build::number(a[1]);
+    let out = crate::build::number(a[2]);
+    let spare = crate::build::number(a[3]);
+    let mut words = [77i64; 65540];
+    let mut more = [66i64; 65540];
+    if out <= 65540 {
+        if spare <= 65540 {
+            run_into(
+                name,
+                table,
+                configuration,
+                budget,
+                limit,
+                &mut words[0..out],
+                &mut more[0..spare],
+            );
+        }
+    }
+}
+
+fn replay_into(
+    name: &[u8],
+    table: &[i64],
+    configuration: &[i64],
+    log: &[u16],
+    limit: usize,
+    out: &mut [i64],
+    picks: &mut [u16],
+    work: &mut [i64],
+) {
+    named(name);
+    crate::show::replayed(replay::replay(table, configuration, log, limit, out, picks, work));
+    crate::show::picks(b"; picks", picks);
+    crate::show::slice(b"; out", out);
+    crate::show::slice(b"; work", work);
+    crate::show::end();
+}
+
+// A replay: N, and the lengths of out, picks and work.
+pub fn replay(name: &[u8], table: &[i64], configuration: &[i64], log: &[u16], a: &[i64; 8]) {
+    let limit = crate::build::number(a[0]);
+    let out = crate::build::number(a[1]);
+    let picks = crate::build::number(a[2]);
+    let work = crate::build::number(a[3]);
+    let mut words = [77i64; 65540];
+    let mut numbers = [99u16; 4200];
+    let mut more = [55i64; 165000];
+    if out <= 65540 {
+        if picks <= 4200 {
+            if work <= 165000 {
+                replay_into(
+                    name,
+                    table,
+                    configuration,
+                    log,
+                    limit,
+                    &mut words[0..out],
+                    &mut numbers[0..picks],
+                    &mut more[0..work],
+                );
+            }
+        }
+    }
+}
+
+// The desk: a request's bytes to its answer's.
+pub fn desk(name: &[u8], request: &[u8]) {
+    let mut output = [0u8; cli::MAX_OUTPUT];
+    let n = cli::answer(request, &mut output);
+    crate::show::text(b"desk, ");
+    named(name);
+    crate::show::text(crate::text::before(&output, n));
+}
