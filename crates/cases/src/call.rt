@@ -1,4 +1,4 @@
-// The calls: each prints its name, the answer, and every lent slice whole. Out held 77 before, spare 66, picks 99, work 55.
+// The calls: each prints its name, the answer, and every lent slice whole. Out held 77 before, spare 66, choices 99, work 55.
 use value::builtin::Scalar;
 
 fn named(name: &[u8]) {
@@ -148,7 +148,7 @@ fn replay_into(
     crate::show::end();
 }
 
-// A replay: N, and the lengths of out, picks and work.
+// A replay: N, and the lengths of out, choices and work.
 pub fn replay(name: &[u8], table: &[i64], configuration: &[i64], log: &[u16], a: &[i64; 8]) {
     let limit = crate::build::number(a[0]);
     let out = crate::build::number(a[1]);
