@@ -14,7 +14,9 @@ const CALL: i64 = -1;
 
 const NO_NODE: i64 = -1;
 
-const SYMBOL: i64 = 4095;
+const FIRST_SYMBOL: i64 = 0;
+
+const LAST_SYMBOL: i64 = 4095;
 
 // The range of a ground term's datum by tag: sixteen times the least, then sixteen times the most. A tag that it has none of has an empty range.
 // The walks are lent this list, so that it is laid out once and not at every node.
@@ -27,14 +29,14 @@ pub const RANGES: [i64; 32] = [
     0,
     0,
     0,
-    0,
-    0,
-    0,
-    0,
-    0,
-    0,
-    0,
-    0,
+    FIRST_SYMBOL,
+    FIRST_SYMBOL,
+    FIRST_SYMBOL,
+    FIRST_SYMBOL,
+    FIRST_SYMBOL,
+    FIRST_SYMBOL,
+    FIRST_SYMBOL,
+    FIRST_SYMBOL,
     0,
     1,
     9223372036854775807,
@@ -43,14 +45,14 @@ pub const RANGES: [i64; 32] = [
     NO_NODE,
     NO_NODE,
     NO_NODE,
-    SYMBOL,
-    SYMBOL,
-    SYMBOL,
-    SYMBOL,
-    SYMBOL,
-    SYMBOL,
-    SYMBOL,
-    SYMBOL,
+    LAST_SYMBOL,
+    LAST_SYMBOL,
+    LAST_SYMBOL,
+    LAST_SYMBOL,
+    LAST_SYMBOL,
+    LAST_SYMBOL,
+    LAST_SYMBOL,
+    LAST_SYMBOL,
 ];
 
 // Whether two words are a node of a ground term.
