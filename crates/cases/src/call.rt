@@ -137,12 +137,12 @@ fn replay_into(
     log: &[u16],
     limit: usize,
     out: &mut [i64],
-    picks: &mut [u16],
+    choices: &mut [u16],
     work: &mut [i64],
 ) {
     named(name);
-    crate::show::replayed(replay::replay(table, configuration, log, limit, out, picks, work));
-    crate::show::picks(b"; picks", picks);
+    crate::show::replayed(replay::replay(table, configuration, log, limit, out, choices, work));
+    crate::show::choices(b"; picks", choices);
     crate::show::slice(b"; out", out);
     crate::show::slice(b"; work", work);
     crate::show::end();
@@ -152,13 +152,13 @@ fn replay_into(
 pub fn replay(name: &[u8], table: &[i64], configuration: &[i64], log: &[u16], a: &[i64; 8]) {
     let limit = crate::build::number(a[0]);
     let out = crate::build::number(a[1]);
-    let picks = crate::build::number(a[2]);
+    let choices = crate::build::number(a[2]);
     let work = crate::build::number(a[3]);
     let mut words = [77i64; 65540];
     let mut numbers = [99u16; 4200];
     let mut more = [55i64; 165000];
     if out <= 65540 {
-        if picks <= 4200 {
+        if choices <= 4200 {
             if work <= 165000 {
                 replay_into(
                     name,
@@ -167,7 +167,7 @@ pub fn replay(name: &[u8], table: &[i64], configuration: &[i64], log: &[u16], a:
                     log,
                     limit,
                     &mut words[0..out],
-                    &mut numbers[0..picks],
+                    &mut numbers[0..choices],
                     &mut more[0..work],
                 );
             }

@@ -176,14 +176,14 @@ fn widen(from: &[u16], to: &mut [i64]) -> usize {
     next
 }
 
-// A slice of picks, whole; `room` has as many words or more.
+// A slice of choices, whole; `room` has as many words or more.
 fn widened(name: &[u8], numbers: &[u16], room: &mut [i64]) {
     let n = widen(numbers, room);
     slice(name, crate::build::front(room, n));
 }
 
 // None here has more than 4,200.
-pub fn picks(name: &[u8], numbers: &[u16]) {
+pub fn choices(name: &[u8], numbers: &[u16]) {
     let mut room = [0i64; 4200];
     widened(name, numbers, &mut room);
 }
