@@ -140,7 +140,7 @@ module _ (rules room m : ℕ) (w w′ : List ℤ) (j : ℕ) (c : List ℤ) (smal
   entered-held d i u le n sp h = held-still room m w w′ d j i u le (ent .wide) (frame₂ i n) sp h
 
   -- held for this one, it was held, or stood in the frame
-  pub in-held : ((i : ℕ) → i < m → Spare room w (base room i)) → (j + 3 < m → Keeps room w w′ (base room j)) → (d i : ℕ) (u : Term) → d < j → Held room m w′ j i u → Held room m w d i u
+  pub in-held : ((i : ℕ) → i < m → Spare room w (base room i)) → (j + 4 < m → Keeps room w w′ (base room j)) → (d i : ℕ) (u : Term) → d < j → Held room m w′ j i u → Held room m w d i u
   in-held sp ks d i u l h = side (decLt i j) (decLt j i) h
     where
       this : (i : ℕ) → j ≡ i → Held room m w′ j i u → Held room m w d i u

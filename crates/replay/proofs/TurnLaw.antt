@@ -202,11 +202,11 @@ module _ (ws : List ℤ) (index : List ℕ) (rules room : ℕ) (log : List ℕ) 
               c = take (2 * n) out′
 
               -- it is known
-              known-held : Known room work₁ (base room (suc d)) (ltb (d + 4) (length log)) c → Held room (length log) work₁ d (suc d) h
+              known-held : Known room work₁ (base room (suc d)) (ltb (d + 5) (length log)) c → Held room (length log) work₁ d (suc d) h
               known-held (inl k) = inl (omega arith, l, k .0, ap termOf (k .1) ∙ term-of c h is)
-              known-held (inr k) = let x = ltb-true (d + 4) (length log) (k .0) in inr (c, omega arith, omega arith, k .1, term-of c h is)
+              known-held (inr k) = let x = ltb-true (d + 5) (length log) (k .0) in inr (c, omega arith, omega arith, k .1, term-of c h is)
 
-              turned-known : Known room work₁ (base room (suc d)) (ltb (d + 4) (length log)) c → TurnSays t rules room log d work out′ work₁ (On d)
+              turned-known : Known room work₁ (base room (suc d)) (ltb (d + 5) (length log)) c → TurnSays t rules room log d work out′ work₁ (On d)
               unfolding stateOf leftOf
               turned-known k =
                   let own : Held room (length log) work₁ d (suc d) h = known-held k in
@@ -221,7 +221,7 @@ module _ (ws : List ℤ) (index : List ℕ) (rules room : ℕ) (log : List ℕ) 
                   )
 
               -- it is entered
-              module _ (work₂ : List ℤ) (ent : Enters room work₁ work₂ (base room (suc d)) c) (ks : d + 4 < length log → Keeps room work₁ work₂ (base room (suc d))) where
+              module _ (work₂ : List ℤ) (ent : Enters room work₁ work₂ (base room (suc d)) c) (ks : d + 5 < length log → Keeps room work₁ work₂ (base room (suc d))) where
                 small : length c ≤ room
                 small = omega (arith, ap length front, term-length h, few)
 
@@ -270,7 +270,7 @@ module _ (ws : List ℤ) (index : List ℕ) (rules room : ℕ) (log : List ℕ) 
         settled (S.Stepped m a n) z w r (inl k) =
             let l : suc d < length log = omega (arith, k .0) in
             let ent : Enters room work₁ w (base room (suc d)) (take (2 * n) out′) = rw (add-one d) at (k .2) in
-            let ks : d + 4 < length log → Keeps room work₁ w (base room (suc d)) = rw (add-one d) at (k .3) in
+            let ks : d + 5 < length log → Keeps room work₁ w (base room (suc d)) = rw (add-one d) at (k .3) in
             let on : r ≡ On (suc d) = rw (add-one d) at (k .1) in
             rw on (record {
               kept = kept w (long₂ out′ (z .told .0) (z .told .1) (z .told .2) n (z .told .3) (z .told .4) l w ent ks) (behind₂ out′ (z .told .0) (z .told .1) (z .told .2) n (z .told .3) (z .told .4) l w ent ks) (z .wide) (z .kept);
@@ -278,7 +278,7 @@ module _ (ws : List ℤ) (index : List ℕ) (rules room : ℕ) (log : List ℕ) 
             })
         settled (S.Stepped m a n) z w r (inr (inl k)) =
             let l : suc d < length log = omega (arith, k .0) in
-            let known : Known room work₁ (base room (suc d)) (ltb (d + 4) (length log)) (take (2 * n) out′) = rw (add-one d) at (k .3) in
+            let known : Known room work₁ (base room (suc d)) (ltb (d + 5) (length log)) (take (2 * n) out′) = rw (add-one d) at (k .3) in
             unmoved r (On d) w (k .1) (k .2) (z .wide) (z .kept) (turned-known out′ (z .told .0) (z .told .1) (z .told .2) n (z .told .3) (z .told .4) l known)
         settled (S.Stepped m a n) z w r (inr (inr k)) =
             unmoved r (Made (2 * n)) w (k .1) (k .2) (z .wide) (z .kept) (turned-made out′ (z .told .0) (z .told .1) (z .told .2) n (z .told .3) (z .told .4) (k .0))

@@ -53,10 +53,10 @@ pub record Sound (rules room m : ℕ) (work : List ℤ) (d : ℕ) : Type 0 where
   pub spare : (i : ℕ) → i < m → Spare room work (base room i)
 
 -- what is held for depth i while the search stands at depth d: the configuration of a frame behind d, whose search has ended; and what a frame's table has,
--- where four actions are left or more
+-- where five actions are left or more
 abbrev pub Held : ℕ → ℕ → List ℤ → ℕ → ℕ → Term → Type 0
 Held room m work d i u =
-    ((d < i) × (i < m) × (0 < lengthOf room work (base room i)) × (termAt room work i ≡ u)) ⊎ ((c : List ℤ) × (0 < i) × (i + 3 < m) × Entry room work (base room i) c × (termOf c ≡ u))
+    ((d < i) × (i < m) × (0 < lengthOf room work (base room i)) × (termAt room work i ≡ u)) ⊎ ((c : List ℤ) × (0 < i) × (i + 4 < m) × Entry room work (base room i) c × (termOf c ≡ u))
 
 -- what the search will say that stands at depth d, with whether a successor above the limit was met; and the turns that it has left
 unfoldable pub stateOf : Table → ℕ → List ℕ → List ℤ → Bool → ℕ → ReplayResult Term
@@ -106,7 +106,7 @@ MadeWithin (S.Refused r) room out = Unit {0}
 -- a successor, so many words of out: it is entered; or passed over, since it is known; or the last
 abbrev pub Descends : ℕ → ℕ → ℕ → ℕ → List ℤ → List ℤ → List ℤ → Turned → Type 0
 Descends k m room d out work work′ r =
-    ((d + 1 < m) × (r ≡ On (d + 1)) × Enters room work work′ (base room (d + 1)) (take k out) × (d + 4 < m → Keeps room work work′ (base room (d + 1)))) ⊎ ((d + 1 < m) × (r ≡ On d) × (work′ ≡ work) × Known room work (base room (d + 1)) (ltb (d + 4) m) (take k out)) ⊎ ((m ≤ d + 1) × (r ≡ Made k) × (work′ ≡ work))
+    ((d + 1 < m) × (r ≡ On (d + 1)) × Enters room work work′ (base room (d + 1)) (take k out) × (d + 5 < m → Keeps room work work′ (base room (d + 1)))) ⊎ ((d + 1 < m) × (r ≡ On d) × (work′ ≡ work) × Known room work (base room (d + 1)) (ltb (d + 5) m) (take k out)) ⊎ ((m ≤ d + 1) × (r ≡ Made k) × (work′ ≡ work))
 
 abbrev pub Settles : StepAnswer → ℕ → ℕ → ℕ → List ℤ → List ℤ → List ℤ → Turned → Type 0
 Settles (S.Stepped n a k) m room d out work work′ r = Descends (2 * k) m room d out work work′ r

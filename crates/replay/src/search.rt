@@ -71,7 +71,7 @@ fn try_at<'a>(
     step::apply_rule(table, index, configuration, rule, &mut out[..room])
 }
 
-// A successor, the first `words` words of out: it is entered, unless it is known or the last. A table is used where four actions are left or more: below that a
+// A successor, the first `words` words of out: it is entered, unless it is known or the last. A table is used where five actions are left or more: below that a
 // search is too short to pay for it.
 fn descend(
     words: usize,
@@ -89,7 +89,7 @@ fn descend(
     let next = depth + 1;
     if next < actions {
         let at = frame::base_at(room, next);
-        let tabled = depth + 4 < actions;
+        let tabled = depth + 5 < actions;
         if memory::known(work, at, room, tabled, &out[..words]) {
             return Turned::On(depth);
         }

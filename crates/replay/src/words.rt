@@ -79,7 +79,7 @@ fn differ(a: &[i64], b: &[i64]) -> bool
     requires { ⌜ length (now a) ≡ length (now b) ⌝ }
 {
     let mut j = a.len();
-    let mut left = 4usize;
+    let mut left = 2usize;
     while 0 < j && 0 < left {
         j -= 1;
         left -= 1;

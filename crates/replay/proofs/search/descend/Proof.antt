@@ -75,7 +75,7 @@ returns-2 c =
     let s = b .before .before in
     let a = s .args in
     let e = rw (b .base-at .ensures) at (c .before .enter .ensures) in
-    inl (b .before .if1 .taken, refl, e .0, λ h. e .1 (lt-ltb (a .depth + 4) (a .actions) h))
+    inl (b .before .if1 .taken, refl, e .0, λ h. e .1 (lt-ltb (a .depth + 5) (a .actions) h))
 
 returns-3 : tie.Need-returns-3
 returns-3 c = inr (inr (c .if1 .left, refl, refl))
