@@ -15,11 +15,13 @@ use crate::ground::ground_terms;
 use minuska::Check;
 use minuska::Refusal;
 
+// What two words say: a node with so many children, or no node. The definitions answer with it; no routine does.
 pub enum Count {
     Is(usize),
     Bad,
 }
 
+// The place behind what a walk has taken, or that it found something else.
 pub enum Place {
     At(usize),
     Nowhere,
