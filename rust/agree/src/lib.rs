@@ -7,6 +7,7 @@
 //!   interpreter and the tuned one.
 //! - [`limits`] has the calls at every limit of the scope paper and one beyond.
 //! - [`generate`] has the random ones: tables, configurations, logs, limits and buffers.
+//! - [`progress`] says on a terminal how far it is.
 //! - [`search`] counts what a replay has to do.
 //! - [`text`] has inputs for the command line program.
 
@@ -17,6 +18,7 @@ pub mod compare;
 pub mod engines;
 pub mod generate;
 pub mod limits;
+pub mod progress;
 pub mod rng;
 pub mod search;
 pub mod text;

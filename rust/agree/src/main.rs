@@ -7,13 +7,15 @@
 //!                                  the command line program, on N inputs at least (3,000)
 //! ```
 //!
-//! A mismatch prints the whole call and ends the program with status 1.
+//! A mismatch prints the whole call and ends the program with status 1. Where standard error is a
+//! terminal, a line there says how far it is.
 
 #![forbid(unsafe_code)]
 
 use agree::call::Call;
 use agree::compare::compare;
 use agree::generate::Calls;
+use agree::progress::Progress;
 use agree::{engines, limits, text};
 use std::collections::BTreeMap;
 use std::process::ExitCode;
@@ -84,7 +86,8 @@ fn generate(calls: usize, seed: u64) -> Result<String, String> {
     let mut source = Calls::new(seed);
     let random = calls.saturating_sub(fixed.len());
     let generated = (0..random).map(|_| source.next_call());
-    for call in fixed.into_iter().chain(generated) {
+    let total = fixed.len() + random;
+    for call in Progress::new(fixed.into_iter().chain(generated), total) {
         perform(&call, &mut counts).map_err(|text| format!("mismatch, seed {seed}: {text}"))?;
     }
     print_counts(&counts);
@@ -125,7 +128,8 @@ fn compare_program(program: &str, calls: usize, seed: u64) -> Result<String, Str
     let random = calls.saturating_sub(fixed.len());
     let generated = (0..random).map(|_| source.next_input());
     let mut count = 0;
-    for input in fixed.into_iter().chain(generated) {
+    let total = fixed.len() + random;
+    for input in Progress::new(fixed.into_iter().chain(generated), total) {
         text::compare(program, &input).map_err(|text| format!("mismatch, seed {seed}: {text}"))?;
         count += 1;
     }

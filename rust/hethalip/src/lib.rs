@@ -3,7 +3,8 @@
 //! A table of rules, a configuration and the buffers that a routine writes to are slices of words
 //! (`i64`); a log of actions and the list of chosen rules are slices of `u16`. The caller lends
 //! every slice and the library allocates nothing. What is malformed, or out of range, or does not
-//! fit is refused by its number ([`Refusal`]); no input is undefined.
+//! fit is refused by its number ([`Refusal`]); no input is undefined. `docs/FORMAT.md` of the
+//! repository says what the words mean.
 //!
 //! | routine | says |
 //! |---|---|
@@ -33,6 +34,7 @@ assert_eq!(out, [9, 1, 2, 1]);
 #![deny(unsafe_code)]
 
 mod answer;
+mod display;
 #[cfg(feature = "proved")]
 mod routines;
 
