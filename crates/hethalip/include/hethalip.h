@@ -1,29 +1,12 @@
 /* Hethalip: a proved interpreter and replay checker for conditional rewrite rules.
  *
- * Link with libhethalip.a. Words are signed 64-bit numbers; a table, a configuration and a log are as document 01 says. A limit is in nodes, two words each.
+ * Link with libhethalip.a. Words are signed 64-bit numbers; docs/FORMAT.md says what a table, a configuration and a log are. A limit is in nodes, two words each.
  *
  * The caller owes what C cannot say: a pointer is not null, is aligned, and has as many elements behind it as the length after it says; nothing
  * else uses them during the call; and a slice that is written (out, spare, choices, work) overlaps no other. Nothing else is asked: every call ends,
  * with an answer for all words and numbers.
  *
- * The answer's low byte is its kind; the bits above it are its values, all else is 0:
- *
- *   kind     means                                         values
- *   0        good (the two checks)
- *   1        bad table
- *   2        bad configuration
- *   3        log or budget too long
- *   4        bad limit
- *   5        a slice is too short
- *   6        over the limit                                of a run: bits 8 up, the count of steps
- *   16       stuck (step), does not apply (step by rule)
- *   17       stepped                                       bits 8 to 15 the rule, 16 to 31 the action, 32 up the node count
- *   18       run stuck                                     bits 8 up, the count of steps
- *   19       run spent                                     bits 8 up, the count of steps
- *   20       reproduced
- *   21       not reproduced
- *
- * Later versions add functions and kinds; a number once given keeps its meaning.
+ * The answer's low byte is its kind; the bits above it are its values, all else is 0. Later versions add functions and kinds; a number once given keeps its meaning.
  */
 #ifndef HETHALIP_H
 #define HETHALIP_H
@@ -34,6 +17,40 @@
 #ifdef __cplusplus
 extern "C" {
 #endif
+
+/* The kinds. 1 to 6 are refusals, of several the lowest; 7, unreadable text, is the command line program's own and no function gives it. */
+enum {
+    HETHALIP_GOOD = 0,              /* the two checks */
+    HETHALIP_BAD_TABLE = 1,
+    HETHALIP_BAD_CONFIGURATION = 2, /* or empty, or above HETHALIP_MAX_NODES */
+    HETHALIP_TOO_LONG = 3,          /* the log or the budget */
+    HETHALIP_BAD_LIMIT = 4,         /* 0, above HETHALIP_MAX_NODES, or below the configuration's nodes */
+    HETHALIP_SHORT_SLICE = 5,       /* a lent slice is shorter than stated */
+    HETHALIP_OVER_LIMIT = 6,        /* of a run: bits 8 up, the count of steps */
+    HETHALIP_STUCK = 16,            /* no rule applies (step); the rule does not apply (step by rule) */
+    HETHALIP_STEPPED = 17,          /* bits 8 to 15 the rule, 16 to 31 the action, 32 up the node count */
+    HETHALIP_RUN_STUCK = 18,        /* bits 8 up, the count of steps */
+    HETHALIP_RUN_SPENT = 19,        /* bits 8 up, the count of steps */
+    HETHALIP_REPRODUCED = 20,
+    HETHALIP_NOT_REPRODUCED = 21
+};
+
+/* The highest limit, the longest log, the highest budget. */
+enum { HETHALIP_MAX_NODES = 32768, HETHALIP_MAX_LOG = 4096, HETHALIP_MAX_BUDGET = 1000000 };
+
+/* An answer's kind. */
+static inline unsigned hethalip_kind(uint64_t answer) { return (unsigned)(answer & 0xff); }
+
+/* The values of HETHALIP_STEPPED. */
+static inline unsigned hethalip_rule(uint64_t answer) { return (unsigned)(answer >> 8 & 0xff); }
+static inline unsigned hethalip_action(uint64_t answer) { return (unsigned)(answer >> 16 & 0xffff); }
+static inline size_t hethalip_nodes(uint64_t answer) { return (size_t)(answer >> 32); }
+
+/* The count of steps of a run: of HETHALIP_RUN_STUCK, HETHALIP_RUN_SPENT and HETHALIP_OVER_LIMIT. */
+static inline uint64_t hethalip_steps(uint64_t answer) { return answer >> 8; }
+
+/* The words of work that a replay needs, for a log and a limit up to the highest. */
+static inline size_t hethalip_work_len(size_t log_len, uint64_t limit) { return (log_len + 1) * (2 * (size_t)limit + 2); }
 
 /* Kinds 0 and 1; 0 and 2. */
 uint64_t hethalip_check_table(const int64_t *table, size_t table_len);
