@@ -49,7 +49,7 @@ static void runs(void) {
     assert(hethalip_kind(answer) == HETHALIP_RUN_STUCK && hethalip_steps(answer) == 0);
     assert(run(spin, LEN(spin), HETHALIP_MAX_BUDGET + 1, 4) == HETHALIP_TOO_LONG);
     assert(run(spin, LEN(spin), 2, HETHALIP_MAX_NODES + 1) == HETHALIP_BAD_LIMIT);
-    assert(run(spin, LEN(spin), 2, HETHALIP_MAX_NODES) == HETHALIP_SHORT_SLICE);
+    assert(run(spin, LEN(spin), 2, HETHALIP_MAX_NODES) == HETHALIP_SHORT_BUFFER);
 }
 
 static uint64_t replay(const uint16_t *log, size_t log_len, uint64_t limit, size_t work_len) {
@@ -60,10 +60,10 @@ static void replays(void) {
     size_t needed = hethalip_work_len(2, 4);
     assert(needed <= LEN(work));
     assert(replay(actions, 2, 4, needed) == HETHALIP_REPRODUCED);
-    assert(replay(actions, 2, 4, needed - 1) == HETHALIP_SHORT_SLICE);
+    assert(replay(actions, 2, 4, needed - 1) == HETHALIP_SHORT_BUFFER);
     assert(replay(actions + 1, 1, 4, needed) == HETHALIP_NOT_REPRODUCED);
     assert(replay(actions, 2, 3, needed) == HETHALIP_OVER_LIMIT);
-    assert(replay(actions, HETHALIP_MAX_LOG, 4, needed) == HETHALIP_SHORT_SLICE);
+    assert(replay(actions, HETHALIP_MAX_LOG, 4, needed) == HETHALIP_SHORT_BUFFER);
     assert(replay(actions, HETHALIP_MAX_LOG + 1, 4, needed) == HETHALIP_TOO_LONG);
     assert(replay(actions, 2, 1, needed) == HETHALIP_BAD_LIMIT);
 }

@@ -10,7 +10,7 @@ use Rattle.minuska.specs.Term.{Term, single}
 use Rattle.minuska.specs.Word.{encode}
 use Rattle.minuska.specs.declared.Refusal.the-variants.{OverLimit}
 use Rattle.minuska.specs.Answer.{number, Outcome, refused, gives, ReplayResult, reproduced, exceeded, notReproduced}
-use Rattle.minuska.specs.Slice.{replayAnswer, replayNumber}
+use Rattle.minuska.specs.Slice.{replayAnswer, replaySays}
 use Rattle.minuska.specs.Basics.{sameWhole}
 use Rattle.minuska.specs.Computed.Outcome.{replayOutcome}
 use Rattle.minuska.specs.Marked.{words, sample, Printed, lines, noPath, refusal, replays, sameWords, printed, passes}
@@ -54,7 +54,7 @@ same-numbers (m ∷ ms) (n ∷ ns) e =
     cc
 
 printed-is : (o : Outcome (ReplayResult Term)) (x : Printed) → Numbered x → T (printed o x) → answerText o ≡ printedText x
-unfolding answerText replayNumber replayAnswer
+unfolding answerText replaySays replayAnswer
 printed-is (refused r) (lines ns ws) p t = absurd t
 printed-is (refused r) noPath p t = absurd t
 printed-is (refused r) (refusal n) p t = ap refusalText (eqb→eq (number r) n t)

@@ -11,7 +11,7 @@ use borrow.Author.Tests.{le-leb, lt-leb}
 use Rattle.minuska.specs.Term.{Term}
 use Rattle.minuska.specs.declared.Refusal.the-variants.{Unreadable}
 use Rattle.minuska.specs.Answer.{Outcome, refused, ReplayResult}
-use Rattle.minuska.specs.Claim.{ReplayClaim, Meets, ReplayRefuses}
+use Rattle.minuska.specs.Claim.{ReplayClaim, Meets, FirstGiven, replayRows}
 use Rattle.minuska.specs.Slice.{write}
 use Rattle.minuska.specs.Computed.Outcome.{replayOutcome}
 use Rattle.minuska.proofs.OutcomeLaw.{replay-outcome}
@@ -55,7 +55,7 @@ module _ (input : List ℕ) where
         is = refl;
         unreadable = unreadable-iff;
         claim = λ q h. subst⁻¹ (λ (o : Outcome (ReplayResult Term)). Meets (q .table) (q .configuration) (λ t g. ReplayClaim t (q .limit) (q .log) g) o) (of-request q h) (replay-outcome (q .table) (q .configuration) (q .log) (q .limit) 1024 256 4096);
-        refuses = λ q h. subst⁻¹ (ReplayRefuses (q .table) (q .configuration) (q .log) (q .limit) 1024 256 4096) (of-request q h) (replay-refuses (q .table) (q .configuration) (q .log) (q .limit) 1024 256 4096);
+        refuses = λ q h. subst⁻¹ (λ (o : Outcome (ReplayResult Term)). FirstGiven (replayRows (q .table) (q .configuration) (q .log) (q .limit) 1024 256 4096) o) (of-request q h) (replay-refuses (q .table) (q .configuration) (q .log) (q .limit) 1024 256 4096);
         text = text;
         says = says;
         leaves = leaves;

@@ -10,7 +10,7 @@ use lib.ListN.{length}
 use Rattle.minuska.specs.Term.{Term}
 use Rattle.minuska.specs.declared.Refusal.the-variants.{Unreadable}
 use Rattle.minuska.specs.Answer.{Outcome, refused, ReplayResult}
-use Rattle.minuska.specs.Claim.{ReplayClaim, Meets, ReplayRefuses}
+use Rattle.minuska.specs.Claim.{ReplayClaim, Meets, FirstGiven, replayRows}
 use Rattle.minuska.specs.Slice.{write}
 use Rattle.cli.specs.Input.{Request, IsInput}
 use Rattle.cli.specs.Output.{answered, answerText}
@@ -35,7 +35,7 @@ pub record AnswerContract (input output output′ : List ℕ) (r : ℕ) : Type 0
   pub unreadable : (outcome ≡ refused Unreadable) ↔ ((q : Request) → IsInput input q → ⊥)
   -- demand 3, and the other numbers
   pub claim : (q : Request) → IsInput input q → Meets (q .table) (q .configuration) (λ t g. ReplayClaim t (q .limit) (q .log) g) outcome
-  pub refuses : (q : Request) → IsInput input q → ReplayRefuses (q .table) (q .configuration) (q .log) (q .limit) 1024 256 4096 outcome
+  pub refuses : (q : Request) → IsInput input q → FirstGiven (replayRows (q .table) (q .configuration) (q .log) (q .limit) 1024 256 4096) outcome
   -- the text stands at the start of the output slice, bytes behind it keep, and its length is returned
   pub text : List ℕ
   pub says : text ≡ fitted (leb maxOutput (length output)) (answerText outcome)

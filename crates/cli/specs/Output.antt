@@ -8,7 +8,9 @@ use Rattle.minuska.specs.Term.{Term, single}
 use Rattle.minuska.specs.Word.{encode}
 use Rattle.minuska.specs.declared.Refusal.{Refusal}
 use Rattle.minuska.specs.declared.Refusal.the-variants.{OverLimit, Unreadable}
-use Rattle.minuska.specs.Answer.{number, Outcome, refused, gives, ReplayResult, reproduced, exceeded, notReproduced}
+use Rattle.minuska.specs.Answer.{Outcome, refused, gives, ReplayResult, reproduced, exceeded, notReproduced}
+use Rattle.minuska.specs.declared.ReplayAnswer.the-variants.{Refused}
+use Rattle.minuska.specs.Slice.{replaySays}
 use Rattle.minuska.specs.Computed.Outcome.{replayOutcome}
 use Rattle.cli.specs.Decimal.{ascii, decimal, wholeText}
 use Rattle.cli.specs.Input.{line, Request}
@@ -24,7 +26,7 @@ reproducedText choices words = line (ascii "reproduced" ∷ map decimal (length 
 
 -- "or `refused,` and the number"
 abbrev pub refusedText : Refusal → List ℕ
-refusedText r = line (ascii "refused" ∷ decimal (number r) ∷ [])
+refusedText r = line (ascii "refused" ∷ decimal (replaySays (Refused r) .number) ∷ [])
 
 -- "or `not reproduced`"
 abbrev pub notReproducedText : List ℕ

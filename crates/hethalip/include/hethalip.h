@@ -25,7 +25,7 @@ enum {
     HETHALIP_BAD_CONFIGURATION = 2, /* or empty, or above HETHALIP_MAX_NODES */
     HETHALIP_TOO_LONG = 3,          /* the log or the budget */
     HETHALIP_BAD_LIMIT = 4,         /* 0, above HETHALIP_MAX_NODES, or below the configuration's nodes */
-    HETHALIP_SHORT_SLICE = 5,       /* a lent slice is shorter than stated */
+    HETHALIP_SHORT_BUFFER = 5,      /* a lent slice is shorter than stated */
     HETHALIP_OVER_LIMIT = 6,        /* of a run: bits 8 up, the count of steps */
     HETHALIP_STUCK = 16,            /* no rule applies (step); the rule does not apply (step by rule) */
     HETHALIP_STEPPED = 17,          /* bits 8 to 15 the rule, 16 to 31 the action, 32 up the node count */

@@ -1,4 +1,3 @@
-pub mod RefusalLaw
 pub mod RangeLaw
 pub mod UnpackLaw
 pub mod ReadLaw

@@ -1,14 +1,14 @@
 -- EVERY CONTRACT GIVES AN ANSWER IN RANGE, so that its values fit the fields of the number.
 use mathlib.Core.Path.{_≡_, refl, subst⁻¹}
 use mathlib.Core.Option.{Option, none, some}
-use mathlib.Core.List.{List}
+use mathlib.Core.List.{List, [], _∷_}
 use Prim.Native.Nat.{ℕ, _≤_, _<_}
 use native.Mathlib.Omega.{arith}
 use lib.Dec.{T, lit≤}
 use lib.IntN.{ℤ}
 use lib.ListN.{length}
 use Rattle.minuska.specs.Term.{Term, nodeCount}
-use Rattle.minuska.specs.Rule.{Table, okTable}
+use Rattle.minuska.specs.Rule.{Table, maxNodes, maxSteps, maxActions, okTable}
 use Rattle.minuska.specs.Rewriting.{RewritesBy}
 use Rattle.minuska.specs.declared.Check.{Check}
 use Rattle.minuska.specs.declared.Refusal.{Refusal}
@@ -17,6 +17,7 @@ use Rattle.minuska.specs.declared.StepAnswer.{StepAnswer}
 use Rattle.minuska.specs.declared.RunAnswer.{RunAnswer}
 use Rattle.minuska.specs.declared.ReplayAnswer.{ReplayAnswer}
 use Rattle.minuska.specs.Answer.{number, Outcome, refused, gives, StepResult, stepped, stuck, tooLarge, Ending, endsStuck, endsSpent, endsOver, RunResult, ReplayResult, reproduced, exceeded, notReproduced}
+use Rattle.minuska.specs.Claim.{longRow, limitRow, shortRow, sizeRows, RunShort, ReplayShort}
 use Rattle.minuska.specs.Slice.{outLimit, stepAnswer, endedAs, runAnswer, replayAnswer}
 use Rattle.minuska.specs.Computed.Read.{readTable, readConfiguration}
 use Rattle.minuska.specs.Computed.Outcome.{checked, tableCheck, configurationCheck}
@@ -25,8 +26,8 @@ use Rattle.minuska.proofs.Good.{good}
 use Rattle.minuska.proofs.OrderLaw.{named-below}
 use Rattle.minuska.proofs.PositionLaw.{few-rules}
 use Rattle.minuska.proofs.StepLaw.{rule-okay}
+use Rattle.minuska.proofs.RefusalLaw.{NumberWithin, row-failed, words-read, early-number, size-numbers}
 use Rattle.hethalip.specs.Range.{CheckInRange, StepInRange, RunInRange, ReplayInRange}
-use Rattle.hethalip.proofs.RefusalLaw.{Early, rule-early, step-early, run-early, replay-early}
 
 -- ---- the checks
 checked-in-range : {A : Type 0} (why : Refusal) → number why ≤ 2 → (o : Option A) → CheckInRange (checked why o)
@@ -51,14 +52,14 @@ rewrites-in-range t a n g h x w =
     let k = good (w .rule) (rule-okay t x n (w .rule) (w .numbered)) .action in
     let e = w .carries in (omega arith, omega arith)
 
-out-limit : (out : ℕ) → outLimit out ≤ 32768
+out-limit : (out : ℕ) → outLimit out ≤ maxNodes
 out-limit out = omega arith
 
 -- what an outcome that steps has to tell
 abbrev Steps : Outcome StepResult → Type 0
-Steps o = (n a : ℕ) (h : Term) → o ≡ gives (stepped n a h) → (n < 256) × (a < 65536) × (nodeCount h ≤ 32768)
+Steps o = (n a : ℕ) (h : Term) → o ≡ gives (stepped n a h) → (n < 256) × (a < 65536) × (nodeCount h ≤ maxNodes)
 
-answer-in-range : (o : Outcome StepResult) → Early o → Steps o → StepInRange (stepAnswer o)
+answer-in-range : (o : Outcome StepResult) → NumberWithin 5 o → Steps o → StepInRange (stepAnswer o)
 unfolding stepAnswer number
 answer-in-range (refused why) e f = omega arith
 answer-in-range (gives (stepped n a h)) e f = f n a h refl
@@ -68,11 +69,11 @@ answer-in-range (gives tooLarge) e f = lit≤ tt
 module _ {ws cs out out′ : List ℤ} {r : StepAnswer} where
   pub step-in-range : StepContract ws cs out out′ r → StepInRange r
   step-in-range c =
-      subst⁻¹ StepInRange (c .answer) (answer-in-range (c .outcome) (subst⁻¹ Early (c .is) (step-early ws cs (length out))) steps)
+      subst⁻¹ StepInRange (c .answer) (answer-in-range (c .outcome) (early-number ws cs [] (c .outcome) tt (c .refuses)) steps)
     where
       steps : Steps (c .outcome)
       steps n a h e =
-          let w = c .refuses .answers .0 (stepped n a h, e) in
+          let w = words-read ws cs [] (c .outcome) (stepped n a h) e (c .refuses) in
           let s = c .claim .meets (w .0) (w .1) (stepped n a h) (w .2) (w .3) e .steps n a h .0 refl in
           let i = rewrites-in-range (w .0) a n (w .1) h (w .2 .accepted) (s .0 .rewrites) in
           let j = out-limit (length out) in
@@ -81,11 +82,11 @@ module _ {ws cs out out′ : List ℤ} {r : StepAnswer} where
 module _ {ws cs : List ℤ} {rule : ℕ} {out out′ : List ℤ} {r : StepAnswer} where
   pub rule-in-range : StepByRuleContract ws cs rule out out′ r → StepInRange r
   rule-in-range c =
-      subst⁻¹ StepInRange (c .answer) (answer-in-range (c .outcome) (subst⁻¹ Early (c .is) (rule-early ws cs rule (length out))) steps)
+      subst⁻¹ StepInRange (c .answer) (answer-in-range (c .outcome) (early-number ws cs [] (c .outcome) tt (c .refuses)) steps)
     where
       steps : Steps (c .outcome)
       steps n a h e =
-          let w = c .refuses .answers .0 (stepped n a h, e) in
+          let w = words-read ws cs [] (c .outcome) (stepped n a h) e (c .refuses) in
           let s = c .claim .meets (w .0) (w .1) (stepped n a h) (w .2) (w .3) e .steps n a h .0 refl in
           let i = rewrites-in-range (w .0) a rule (w .1) h (w .2 .accepted) (s .1) in
           let j = out-limit (length out) in
@@ -93,12 +94,12 @@ module _ {ws cs : List ℤ} {rule : ℕ} {out out′ : List ℤ} {r : StepAnswer
           let m = s .0 in (omega (arith, i .0), i .1, omega arith)
 
 -- ---- the run
-ended-in-range : (k : ℕ) (x : Ending) → k ≤ 1000000 → RunInRange (endedAs x k)
+ended-in-range : (k : ℕ) (x : Ending) → k ≤ maxSteps → RunInRange (endedAs x k)
 ended-in-range k endsStuck h = h
 ended-in-range k endsSpent h = h
 ended-in-range k endsOver h = h
 
-counted-in-range : (o : Outcome RunResult) → Early o → ((x : RunResult) → o ≡ gives x → x .steps ≤ 1000000) → RunInRange (runAnswer o)
+counted-in-range : (o : Outcome RunResult) → NumberWithin 5 o → ((x : RunResult) → o ≡ gives x → x .steps ≤ maxSteps) → RunInRange (runAnswer o)
 unfolding runAnswer
 counted-in-range (refused why) e f = e
 counted-in-range (gives x) e f = ended-in-range (x .steps) (x .ending) (f x refl)
@@ -106,17 +107,17 @@ counted-in-range (gives x) e f = ended-in-range (x .steps) (x .ending) (f x refl
 module _ {ws cs : List ℤ} {budget limit : ℕ} {out spare out′ spare′ : List ℤ} {r : RunAnswer} where
   pub run-in-range : RunContract ws cs budget limit out spare out′ spare′ r → RunInRange r
   run-in-range c =
-      subst⁻¹ RunInRange (c .answer) (counted-in-range (c .outcome) (subst⁻¹ Early (c .is) (run-early ws cs budget limit (length out) (length spare))) steps)
+      subst⁻¹ RunInRange (c .answer) (counted-in-range (c .outcome) (size-numbers ws cs limit (maxActions < length log) (ReplayShort limit log (length out) (length choices) (length work)) (c .outcome) (c .refuses)) steps)
     where
-      steps : (x : RunResult) → c .outcome ≡ gives x → x .steps ≤ 1000000
+      steps : (x : RunResult) → c .outcome ≡ gives x → x .steps ≤ maxSteps
       steps x e =
-          let w = c .refuses .answers .0 (x, e) in
+          let w = words-read ws cs (sizeRows cs limit (maxSteps < budget) (RunShort limit (length out) (length spare))) (c .outcome) x e (c .refuses) in
           let k = c .claim .meets (w .0) (w .1) x (w .2) (w .3) e .counts in
-          let m = w .4 in
-          omega arith
+          let m = row-failed (longRow (maxSteps < budget)) (limitRow cs limit ∷ shortRow (RunShort limit (length out) (length spare)) ∷ []) (c .outcome) x e (w .4) .0 in
+          omega (arith, m)
 
 -- ---- the replay
-replayed-in-range : (o : Outcome (ReplayResult Term)) → Early o → ReplayInRange (replayAnswer o)
+replayed-in-range : (o : Outcome (ReplayResult Term)) → NumberWithin 5 o → ReplayInRange (replayAnswer o)
 unfolding replayAnswer number
 replayed-in-range (refused why) e = omega arith
 replayed-in-range (gives (reproduced ns h)) e = tt
@@ -127,4 +128,4 @@ module _ {ws cs : List ℤ} {log : List ℕ} {limit : ℕ} {out : List ℤ} {cho
   pub replay-in-range : ReplayContract ws cs log limit out choices work out′ choices′ work′ r → ReplayInRange r
   replay-in-range c =
       subst⁻¹ ReplayInRange (c .answer)
-      (replayed-in-range (c .outcome) (subst⁻¹ Early (c .is) (replay-early ws cs log limit (length out) (length choices) (length work))))
+      (replayed-in-range (c .outcome) (size-numbers ws cs limit (maxActions < length log) (ReplayShort limit log (length out) (length choices) (length work)) (c .outcome) (c .refuses)))

@@ -39,12 +39,12 @@ low-half x above h = omega arith
 
 -- ---- the checks
 check-fits : (a : Check) → CheckInRange a → packCheck a < 2 ^ 64
-unfolding packCheck
+unfolding packCheck checkSays
 check-fits C.Good h = omega arith
 check-fits (C.Refused why) h = omega arith
 
 check-reads : (a : Check) → CheckInRange a → unpackCheck (packCheck a) ≡ a
-unfolding packCheck unpackCheck number
+unfolding packCheck unpackCheck checkSays number
 check-reads C.Good h = refl
 check-reads (C.Refused why) h = each (λ w. unpackCheck (number w) ≡ C.Refused w) refl refl refl refl refl refl refl why
 
@@ -53,13 +53,13 @@ check-lossless = lossless packCheck unpackCheck CheckInRange check-fits check-re
 
 -- ---- the step, and the step by one given rule
 step-fits : (a : StepAnswer) → StepInRange a → packStep a < 2 ^ 64
-unfolding packStep
+unfolding packStep stepSays
 step-fits (S.Stepped rule action nodes) h = omega arith
 step-fits S.Stuck h = omega arith
 step-fits (S.Refused why) h = omega arith
 
 step-reads : (a : StepAnswer) → StepInRange a → unpackStep (packStep a) ≡ a
-unfolding packStep unpackStep number
+unfolding packStep unpackStep stepSays number
 step-reads (S.Stepped rule action nodes) h =
     let r : ℕ = packStep (S.Stepped rule action nodes) in
     let k : r % 2 ^ 8 ≡ 17 = omega arith in
@@ -77,14 +77,14 @@ step-lossless = lossless packStep unpackStep StepInRange step-fits step-reads
 
 -- ---- the run
 run-fits : (a : RunAnswer) → RunInRange a → packRun a < 2 ^ 64
-unfolding packRun number
+unfolding packRun runSays number
 run-fits (R.Stuck k) h = omega arith
 run-fits (R.Spent k) h = omega arith
 run-fits (R.Over k) h = omega arith
 run-fits (R.Refused why) h = omega arith
 
 run-reads : (a : RunAnswer) → RunInRange a → unpackRun (packRun a) ≡ a
-unfolding packRun unpackRun number
+unfolding packRun unpackRun runSays number
 run-reads (R.Stuck k) h =
     let e : packRun (R.Stuck k) % 2 ^ 8 ≡ 18 = omega arith in
     let f : packRun (R.Stuck k) / 2 ^ 8 ≡ k = omega arith in
@@ -105,13 +105,13 @@ run-lossless = lossless packRun unpackRun RunInRange run-fits run-reads
 
 -- ---- the replay
 replay-fits : (a : ReplayAnswer) → ReplayInRange a → packReplay a < 2 ^ 64
-unfolding packReplay
+unfolding packReplay replaySays
 replay-fits P.Reproduced h = omega arith
 replay-fits P.NotReproduced h = omega arith
 replay-fits (P.Refused why) h = omega arith
 
 replay-reads : (a : ReplayAnswer) → ReplayInRange a → unpackReplay (packReplay a) ≡ a
-unfolding packReplay unpackReplay number
+unfolding packReplay unpackReplay replaySays number
 replay-reads P.Reproduced h = refl
 replay-reads P.NotReproduced h = refl
 replay-reads (P.Refused why) h = each (λ w. unpackReplay (number w) ≡ P.Refused w) refl refl refl refl refl refl refl why

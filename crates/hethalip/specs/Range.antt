@@ -8,6 +8,7 @@ use Rattle.minuska.specs.declared.RunAnswer.{RunAnswer}
 use Rattle.minuska.specs.declared.RunAnswer.the-variants as R
 use Rattle.minuska.specs.declared.ReplayAnswer.{ReplayAnswer}
 use Rattle.minuska.specs.declared.ReplayAnswer.the-variants as P
+use Rattle.minuska.specs.Rule.{maxNodes, maxSteps}
 use Rattle.minuska.specs.Answer.{number}
 
 abbrev pub CheckInRange : Check → Type 0
@@ -16,15 +17,15 @@ CheckInRange (C.Refused why) = number why ≤ 2
 
 -- "its rule count, 0 to 256", "action (0 to 65,535)", "at most 32,768 nodes"
 abbrev pub StepInRange : StepAnswer → Type 0
-StepInRange (S.Stepped rule action nodes) = (rule < 256) × (action < 65536) × (nodes ≤ 32768)
+StepInRange (S.Stepped rule action nodes) = (rule < 256) × (action < 65536) × (nodes ≤ maxNodes)
 StepInRange S.Stuck = Unit {0}
 StepInRange (S.Refused why) = number why ≤ 6
 
 -- "budget of 0 to 1,000,000 steps"; 6 comes with its count
 abbrev pub RunInRange : RunAnswer → Type 0
-RunInRange (R.Stuck k) = k ≤ 1000000
-RunInRange (R.Spent k) = k ≤ 1000000
-RunInRange (R.Over k) = k ≤ 1000000
+RunInRange (R.Stuck k) = k ≤ maxSteps
+RunInRange (R.Spent k) = k ≤ maxSteps
+RunInRange (R.Over k) = k ≤ maxSteps
 RunInRange (R.Refused why) = number why ≤ 5
 
 abbrev pub ReplayInRange : ReplayAnswer → Type 0

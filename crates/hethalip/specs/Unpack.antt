@@ -4,9 +4,9 @@ use mathlib.Core.Bool.{cond}
 use mathlib.Core.List.{List, [], _∷_}
 use Prim.Native.Nat.{ℕ, _<_, _/_, _%_, _^_}
 use lib.Dec.{eqb}
-use lib.ListN.{getD}
 use Rattle.minuska.specs.declared.Refusal.{Refusal}
-use Rattle.minuska.specs.declared.Refusal.the-variants.{BadTable, BadConfiguration, TooLong, BadLimit, ShortBuffer, OverLimit, Unreadable}
+use Rattle.minuska.specs.declared.Refusal.the-variants.{Unreadable}
+use Rattle.minuska.specs.Answer.{number, refusals}
 use Rattle.minuska.specs.declared.Check.{Check}
 use Rattle.minuska.specs.declared.Check.the-variants as C
 use Rattle.minuska.specs.declared.StepAnswer.{StepAnswer}
@@ -19,12 +19,13 @@ use Rattle.minuska.specs.declared.ReplayAnswer.the-variants as P
 abbrev pub kind : ℕ → ℕ
 kind r = r % 2 ^ 8
 
--- a refusal by its number, from 1
-abbrev pub refusals : List Refusal
-refusals = Unreadable ∷ BadTable ∷ BadConfiguration ∷ TooLong ∷ BadLimit ∷ ShortBuffer ∷ OverLimit ∷ []
+-- the refusal of a number
+abbrev pub numbered : ℕ → List Refusal → Refusal
+numbered n [] = Unreadable
+numbered n (r ∷ rs) = cond (eqb (number r) n) r (numbered n rs)
 
 abbrev pub refusalOf : ℕ → Refusal
-refusalOf n = getD refusals n Unreadable
+refusalOf n = numbered n refusals
 
 unfoldable pub unpackCheck : ℕ → Check
 unpackCheck r = cond (eqb (kind r) 0) C.Good (C.Refused (refusalOf (kind r)))

@@ -5,10 +5,10 @@ use Rattle.minuska.specs.Answer.{number}
 use Rattle.minuska.specs.Computed.Read.{readTable, readConfiguration}
 use Rattle.minuska.specs.Computed.Step.{step}
 use Rattle.minuska.specs.Computed.Replay.{replay}
-use Rattle.minuska.specs.Slice.{replayAnswer, replayNumber}
+use Rattle.minuska.specs.Slice.{replayAnswer, replaySays}
 use Rattle.minuska.specs.Computed.Outcome.{stepOutcome, replayOutcome}
 use Rattle.minuska.specs.Marked.{passes, cases}
 
 pub all-pass : T (every passes cases)
-unfolding passes cases stepOutcome replayOutcome replayAnswer replayNumber readTable readConfiguration step replay number
+unfolding passes cases stepOutcome replayOutcome replayAnswer replaySays readTable readConfiguration step replay number
 all-pass = tt

@@ -1,9 +1,9 @@
 -- The shut names of `Computed/Outcome`, by what they mean: the checks, the answers on words, and the slices afterwards.
 use mathlib.Core.Path.{_≡_, refl, sym, _∙_, ap, subst}
-use mathlib.Core.Bool.{Bool, true, false, _||_, true≢false}
+use mathlib.Core.Bool.{Bool, true, false, _||_, cond, true≢false}
 use mathlib.Core.Logic.{_↔_}
 use mathlib.Core.Option.{Option, none, some}
-use mathlib.Core.List.{List}
+use mathlib.Core.List.{List, [], _∷_}
 use Prim.Native.Nat.{ℕ, _≤_}
 use native.Mathlib.Omega.{arith}
 use lib.Dec.{eqb, ltb}
@@ -11,15 +11,15 @@ use lib.ListN.{length}
 use lib.IntN.{ℤ}
 use borrow.Author.Tests.{ltb-false}
 use Rattle.minuska.specs.Term.{Term, nodeCount}
-use Rattle.minuska.specs.Rule.{Table, IsTable, IsConfiguration, maxNodes}
-use Rattle.minuska.specs.Answer.{Refusal, Good, Refused, BadTable, BadConfiguration, Outcome, refused, gives}
+use Rattle.minuska.specs.Rule.{Table, IsTable, IsConfiguration, maxNodes, maxSteps, maxActions}
+use Rattle.minuska.specs.Answer.{Refusal, number, Check, Good, Refused, BadTable, BadConfiguration, Outcome, refused, gives}
 use Rattle.minuska.specs.Claim.{TableClaim, ConfigurationClaim, RuleClaim, StepClaim, RunClaim, ReplayClaim, Meets}
 use Rattle.minuska.specs.Computed.Read.{readTable, readConfiguration}
 use Rattle.minuska.specs.Computed.Step.{stepByRule, step}
 use Rattle.minuska.specs.Computed.Run.{run}
 use Rattle.minuska.specs.Computed.Replay.{replay}
-use Rattle.minuska.specs.Slice.{outLimit}
-use Rattle.minuska.specs.Computed.Outcome.{need, onWords, tested, checked, tableCheck, configurationCheck, ruleOutcome, stepOutcome, limitRefused, runShort, runOutcome, replayShort, replayOutcome}
+use Rattle.minuska.specs.Slice.{checkSays, outLimit}
+use Rattle.minuska.specs.Computed.Outcome.{need, onWords, Test, tested, sizeTests, checked, tableCheck, configurationCheck, ruleOutcome, stepOutcome, limitRefused, runShort, runOutcome, replayShort, replayOutcome}
 use Rattle.minuska.proofs.TableLaw.{read-table-iff}
 use Rattle.minuska.proofs.ConfigurationLaw.{read-configuration-iff}
 use Rattle.minuska.proofs.StepLaw.{rule-meets, step-meets}
@@ -48,6 +48,15 @@ module _ {A : Type 0} (o : Option A) (r : Refusal) (Is : A → Type 0) (is : (a 
       back none e f = refl
       back (some a) e f = absurd (f a (is a .0 e))
 
+  -- the same by document 01's number
+  checked-says : (number r ≡ 0 → ⊥) → (checkSays (checked r o) .number ≡ number r) ↔ ((a : A) → Is a → ⊥)
+  unfolding checkSays
+  checked-says n = (there o refl, λ f. ap (λ (x : Check). checkSays x .number) (checked-bad .1 f))
+    where
+      there : (p : Option A) → o ≡ p → checkSays (checked r p) .number ≡ number r → (a : A) → Is a → ⊥
+      there none e z = checked-bad .0 (ap (checked r) e)
+      there (some a) e z = absurd (n (sym z))
+
 pub table-check : (ws : List ℤ) → TableClaim ws (tableCheck ws)
 unfolding tableCheck
 table-check ws =
@@ -57,6 +66,15 @@ pub configuration-check : (ws : List ℤ) → ConfigurationClaim ws (configurati
 unfolding configurationCheck
 configuration-check ws =
     record { good = checked-good (readConfiguration ws) BadConfiguration (IsConfiguration ws) (read-configuration-iff ws); bad = checked-bad (readConfiguration ws) BadConfiguration (IsConfiguration ws) (read-configuration-iff ws) }
+
+pub table-check-says : (ws : List ℤ) → (checkSays (tableCheck ws) .number ≡ 1) ↔ ((t : Table) → IsTable ws t → ⊥)
+unfolding tableCheck number
+table-check-says ws = checked-says (readTable ws) BadTable (IsTable ws) (read-table-iff ws) (λ e. omega arith)
+
+pub configuration-check-says : (ws : List ℤ) → (checkSays (configurationCheck ws) .number ≡ 2) ↔ ((g : Term) → IsConfiguration ws g → ⊥)
+unfolding configurationCheck number
+configuration-check-says ws =
+    checked-says (readConfiguration ws) BadConfiguration (IsConfiguration ws) (read-configuration-iff ws) (λ e. omega arith)
 
 -- ---- words that are a table and a configuration pass the first two tests
 module _ {B : Type 0} (ws cs : List ℤ) (table : Table) (g : Term) (p : IsTable ws table) (q : IsConfiguration cs g) (go : Table → Term → Outcome B) where
@@ -73,12 +91,18 @@ pub gives-injective : {A : Type 0} (a b : A) → gives a ≡ gives b → a ≡ b
 unfolding payload
 gives-injective a b e = ap (payload a) e
 
--- an answer behind the tests 3 to 5: none of them passed
-pub passed : {A : Type 0} (l b s : Bool) (x y : A) → tested l b s x ≡ gives y → (l ≡ false) × (b ≡ false) × (s ≡ false) × (x ≡ y)
-passed true b s x y e = absurd (let z : _≡_ {A = ℕ} 0 1 = cc in let f : ⊥ = omega arith in f)
-passed false true s x y e = absurd (let z : _≡_ {A = ℕ} 0 1 = cc in let f : ⊥ = omega arith in f)
-passed false false true x y e = absurd (let z : _≡_ {A = ℕ} 0 1 = cc in let f : ⊥ = omega arith in f)
-passed false false false x y e = (refl, refl, refl, gives-injective x y e)
+-- an answer behind tests: none of them passed
+abbrev pub AllFail : List Test → Type 0
+AllFail [] = Unit {0}
+AllFail (t ∷ ts) = (t .given ≡ false) × AllFail ts
+
+pub passed : {A : Type 0} (ts : List Test) (x y : A) → tested ts x ≡ gives y → AllFail ts × (x ≡ y)
+passed [] x y e = (tt, gives-injective x y e)
+passed {A} (t ∷ ts) x y e = pick (t .given) refl (λ h. passed ts x y h) e
+  where
+    pick : (b : Bool) → t .given ≡ b → (tested ts x ≡ gives y → AllFail ts × (x ≡ y)) → cond b (refused (t .refusal)) (tested ts x) ≡ gives y → ((t .given ≡ false) × AllFail ts) × (x ≡ y)
+    pick true f rest h = absurd (let z : _≡_ {A = ℕ} 0 1 = cc in let n : ⊥ = omega arith in n)
+    pick false f rest h = let p = rest h in ((f, p .0), p .1)
 
 -- a limit that is not refused is at least the configuration's nodes
 or-false : (a b : Bool) → a || b ≡ false → b ≡ false
@@ -103,9 +127,9 @@ module _ (ws cs : List ℤ) where
   pub run-outcome : (budget n out spare : ℕ) → Meets ws cs (λ t g. RunClaim t n budget g) (runOutcome ws cs budget n out spare)
   unfolding runOutcome
   run-outcome budget n out spare =
-      record { meets = λ t g y p q e. let a = passed (ltb 1000000 budget) (limitRefused n g) (runShort n out spare) (run t n budget g) y (sym (on-words ws cs t g p q (λ u h. tested (ltb 1000000 budget) (limitRefused n h) (runShort n out spare) (run u n budget h))) ∙ e) in subst (RunClaim t n budget g) (a .3) (run-meets t (p .accepted) n budget g) }
+      record { meets = λ t g y p q e. let a = passed (sizeTests (ltb maxSteps budget) (limitRefused n g) (runShort n out spare)) (run t n budget g) y (sym (on-words ws cs t g p q (λ u h. tested (sizeTests (ltb maxSteps budget) (limitRefused n h) (runShort n out spare)) (run u n budget h))) ∙ e) in subst (RunClaim t n budget g) (a .1) (run-meets t (p .accepted) n budget g) }
 
   pub replay-outcome : (log : List ℕ) (n out choices work : ℕ) → Meets ws cs (λ t g. ReplayClaim t n log g) (replayOutcome ws cs log n out choices work)
   unfolding replayOutcome
   replay-outcome log n out choices work =
-      record { meets = λ t g y p q e. let a = passed (ltb 4096 (length log)) (limitRefused n g) (replayShort n log out choices work) (replay t n log g) y (sym (on-words ws cs t g p q (λ u h. tested (ltb 4096 (length log)) (limitRefused n h) (replayShort n log out choices work) (replay u n log h))) ∙ e) in subst (ReplayClaim t n log g) (a .3) (replay-meets t (p .accepted) n log g (limit-holds n g (a .1))) }
+      record { meets = λ t g y p q e. let a = passed (sizeTests (ltb maxActions (length log)) (limitRefused n g) (replayShort n log out choices work)) (replay t n log g) y (sym (on-words ws cs t g p q (λ u h. tested (sizeTests (ltb maxActions (length log)) (limitRefused n h) (replayShort n log out choices work)) (replay u n log h))) ∙ e) in subst (ReplayClaim t n log g) (a .1) (replay-meets t (p .accepted) n log g (limit-holds n g (a .0 .1 .0))) }

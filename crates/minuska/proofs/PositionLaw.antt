@@ -6,9 +6,9 @@ use mathlib.Core.Option.{Option, none, some}
 use mathlib.Core.List.{List, [], _∷_}
 use Prim.Native.Nat.{ℕ, zero, suc, _+_, _<_, _≤_}
 use native.Mathlib.Omega.{arith}
-use lib.Dec.{T, eqb, leb, leb→le}
+use lib.Dec.{T, leb, leb→le}
 use lib.ListN.{length, getD, getElem?}
-use borrow.Author.Tests.{eq-eqb, ne-eqb}
+use borrow.Author.Tests.{ne-eqb}
 use Rattle.minuska.specs.Basics.{_>>=_, provided}
 use Rattle.minuska.specs.Term.{Term}
 use Rattle.minuska.specs.Rule.{Rule, Table, okTable}
@@ -53,11 +53,7 @@ order-names table q h =
 
 -- the successor under an action, by a number that names a rule
 module _ (table : Table) (a n : ℕ) (r : Rule) (named : getElem? table n ≡ some r) (g : Term) where
-  by-test : next table a n g ≡ (provided (eqb (r .action) a) r >>= λ q. successorBy table n g)
-  by-test = ap (λ (o : Option Rule). o >>= λ s. provided (carries a s) s >>= λ q. successorBy table n g) named
-
-  pub next-carried : r .action ≡ a → next table a n g ≡ successorBy table n g
-  next-carried e = by-test ∙ ap (λ (b : Bool). provided b r >>= λ q. successorBy table n g) (eq-eqb (r .action) a e)
-
   pub next-other : (r .action ≡ a → ⊥) → next table a n g ≡ none
-  next-other e = by-test ∙ ap (λ (b : Bool). provided b r >>= λ q. successorBy table n g) (ne-eqb (r .action) a e)
+  next-other e =
+      ap (λ (o : Option Rule). o >>= λ s. provided (carries a s) s >>= λ q. successorBy table n g) named ∙
+      ap (λ (b : Bool). provided b r >>= λ q. successorBy table n g) (ne-eqb (r .action) a e)

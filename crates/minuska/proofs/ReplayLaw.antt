@@ -1,23 +1,28 @@
 -- DEMAND 3: the replay of an accepted table meets its claim, over the one-step relation's successors, and no other answer does.
-use mathlib.Core.Path.{_≡_, refl, _∙_, ap, subst}
+use mathlib.Core.Path.{_≡_, refl, sym, _∙_, ap, subst}
 use mathlib.Core.Logic.{_↔_}
-use mathlib.Core.Option.{Option, some}
+use mathlib.Core.Option.{Option, none, some, Option·some-injective}
 use mathlib.Core.List.{List}
-use Prim.Native.Nat.{ℕ, _≤_}
+use Prim.Native.Nat.{ℕ, _≤_, _<_}
 use lib.Dec.{T, eqb, eqb→eq, eqb-refl}
 use lib.ListN.{getElem?}
 use Rattle.minuska.specs.Basics.{_>>=_, provided}
 use Rattle.minuska.specs.Term.{Term, nodeCount}
 use Rattle.minuska.specs.Rule.{Rule, Table, okTable}
 use Rattle.minuska.specs.Rewriting.{RewritesBy, Earlier}
-use Rattle.minuska.specs.Answer.{ReplayResult, reproduced, exceeded, notReproduced}
-use Rattle.minuska.specs.Claim.{ReplayClaim, SomeList}
+use Rattle.minuska.specs.Answer.{StepResult, stepped, stuck, tooLarge, ReplayResult, reproduced, exceeded, notReproduced}
+use Rattle.minuska.specs.Claim.{RuleClaim, ReplayClaim, SomeList}
 use Rattle.minuska.specs.Computed.Step.{successorBy, carries, next, order, actionIn}
 use Rattle.minuska.specs.Computed.Replay.{replay}
 use Rattle.minuska.proofs.Tests.{came, provided-some, provided-true, exactly}
 use Rattle.minuska.proofs.SearchLaw.{Means, search-means, none-of-any-size, one-meaning}
 use Rattle.minuska.proofs.OrderLaw.{order-complete, order-sorted, order-asymmetric}
 use Rattle.minuska.proofs.StepLaw.{number-iff}
+
+abbrev pub NextTold : Option Term → ℕ → StepResult → Type 0
+NextTold o limit stuck = o ≡ none
+NextTold o limit (stepped n a h) = (o ≡ some h) × (nodeCount h ≤ limit)
+NextTold o limit tooLarge = (h : Term) × (o ≡ some h) × (limit < nodeCount h)
 
 module _ (table : Table) (x : T (okTable table)) where
   -- the successor by a number that carries an action is the relation's
@@ -39,6 +44,23 @@ module _ (table : Table) (x : T (okTable table)) where
 
   pub next-iff : (a n : ℕ) (g h : Term) → (next table a n g ≡ some h) ↔ RewritesBy table a n g h
   next-iff a n g h = (next-rewrites a n g h, rewrites-next a n g h)
+
+  -- ALL THAT A REPLAY NEEDS OF A STEP: what the claim of the step by one rule tells of the successor by a rule that carries the action
+  module _ (a n : ℕ) (r : Rule) (named : getElem? table n ≡ some r) (acts : r .action ≡ a) (limit : ℕ) (g : Term) where
+    carried : (b : ℕ) (h : Term) → RewritesBy table b n g h → next table a n g ≡ some h
+    carried b h w =
+        let same : w .rule ≡ r = Option·some-injective (w .rule) r (sym (w .numbered) ∙ named) in
+        let e : b ≡ a = sym (w .carries) ∙ (ap (λ (q : Rule). q .action) same ∙ acts) in
+        rewrites-next a n g h (subst (λ (c : ℕ). RewritesBy table c n g h) e w)
+
+    pub next-told : (y : StepResult) → RuleClaim table limit n g y → NextTold (next table a n g) limit y
+    next-told stuck k = none-there (next table a n g) refl
+      where
+        none-there : (o : Option Term) → next table a n g ≡ o → next table a n g ≡ none
+        none-there none e = e
+        none-there (some h) e = absurd (k .doesNotApply .0 refl a h (next-rewrites a n g h e))
+    next-told (stepped m b h) k = let w = k .steps m b h .0 refl in (carried b h (w .1), w .2)
+    next-told tooLarge k = let w = k .refuses .0 refl in (w .1, carried (w .0) (w .1) (w .2), w .3)
 
   module _ (limit : ℕ) (log : List ℕ) (g : Term) where
     abbrev Meaning : ReplayResult Term → Type 0

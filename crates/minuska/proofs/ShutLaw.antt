@@ -7,13 +7,14 @@ use lib.Dec.{ltb}
 use lib.ListN.{length}
 use Rattle.minuska.specs.Term.{Term, single, nodeCount}
 use Rattle.minuska.specs.Word.{encode}
-use Rattle.minuska.specs.Rule.{Table}
-use Rattle.minuska.specs.Answer.{Refusal, refused, gives, stepped, stuck, tooLarge, RunResult, ReplayResult, reproduced, exceeded, notReproduced}
+use Rattle.minuska.specs.Rule.{Table, maxSteps, maxActions}
+use Rattle.minuska.specs.Answer.{Refusal, refused, gives, stepped, RunResult, ReplayResult, reproduced, exceeded, notReproduced}
 use Rattle.minuska.specs.Computed.Step.{successorBy, earliest, next, order, answered, withNumber, stepByRule, step}
 use Rattle.minuska.specs.Computed.Run.{lastTurn, turn, run}
 use Rattle.minuska.specs.Computed.Replay.{search, replay}
-use Rattle.minuska.specs.Slice.{write, writeZeros, writeFilled, outLimit, workWords, stepOut, runOut, runSpare, replayOut, replayChoices, replayWork}
-use Rattle.minuska.specs.Computed.Outcome.{onWords, tested, limitRefused, runShort, replayShort, ruleOutcome, stepOutcome, runOutcome, replayOutcome}
+use Rattle.minuska.specs.Claim.{workWords}
+use Rattle.minuska.specs.Slice.{write, writeZeros, writeFilled, outLimit, stepOut, runOut, runSpare, replayOut, replayChoices, replayWork}
+use Rattle.minuska.specs.Computed.Outcome.{onWords, tested, sizeTests, limitRefused, runShort, replayShort, ruleOutcome, stepOutcome, runOutcome, replayOutcome}
 
 -- ---- the answers
 pub step-by-rule-is : (table : Table) (limit n : ℕ) (g : Term) → stepByRule table limit n g ≡ answered table limit (withNumber n (successorBy table n g))
@@ -46,31 +47,19 @@ module _ (ws cs : List ℤ) where
   unfolding stepOutcome
   step-outcome-is out = refl
 
-  pub run-outcome-is : (budget n out spare : ℕ) → runOutcome ws cs budget n out spare ≡ onWords ws cs λ t g. tested (ltb 1000000 budget) (limitRefused n g) (runShort n out spare) (run t n budget g)
+  pub run-outcome-is : (budget n out spare : ℕ) → runOutcome ws cs budget n out spare ≡ onWords ws cs λ t g. tested (sizeTests (ltb maxSteps budget) (limitRefused n g) (runShort n out spare)) (run t n budget g)
   unfolding runOutcome
   run-outcome-is budget n out spare = refl
 
-  pub replay-outcome-is : (log : List ℕ) (n out choices work : ℕ) → replayOutcome ws cs log n out choices work ≡ onWords ws cs λ t g. tested (ltb 4096 (length log)) (limitRefused n g) (replayShort n log out choices work) (replay t n log g)
+  pub replay-outcome-is : (log : List ℕ) (n out choices work : ℕ) → replayOutcome ws cs log n out choices work ≡ onWords ws cs λ t g. tested (sizeTests (ltb maxActions (length log)) (limitRefused n g) (replayShort n log out choices work)) (replay t n log g)
   unfolding replayOutcome
   replay-outcome-is log n out choices work = refl
 
 -- ---- the slices afterwards
 module _ (old : List ℤ) where
-  pub step-out-refused : (r : Refusal) → stepOut (refused r) old ≡ old
-  unfolding stepOut
-  step-out-refused r = refl
-
   pub step-out-stepped : (n a : ℕ) (h : Term) → stepOut (gives (stepped n a h)) old ≡ write (encode (single h)) old
   unfolding stepOut
   step-out-stepped n a h = refl
-
-  pub step-out-stuck : stepOut (gives stuck) old ≡ old
-  unfolding stepOut
-  step-out-stuck = refl
-
-  pub step-out-large : stepOut (gives tooLarge) old ≡ old
-  unfolding stepOut
-  step-out-large = refl
 
   module _ (n : ℕ) where
     pub run-out-refused : (r : Refusal) → runOut n (refused r) old ≡ old

@@ -1,5 +1,5 @@
 -- What the routines find, over terms, and the refusals with their numbers (document 01, "Turned back").
-use mathlib.Core.List.{List}
+use mathlib.Core.List.{List, [], _∷_}
 use Prim.Native.Nat.{ℕ}
 pub use Rattle.minuska.specs.declared.Refusal.{Refusal}
 pub use Rattle.minuska.specs.declared.Refusal.the-variants.{BadTable, BadConfiguration, TooLong, BadLimit, ShortBuffer, OverLimit, Unreadable}
@@ -16,6 +16,15 @@ number BadLimit = 4
 number ShortBuffer = 5
 number OverLimit = 6
 number Unreadable = 7
+
+-- all of them, by their numbers
+abbrev pub refusals : List Refusal
+refusals = BadTable ∷ BadConfiguration ∷ TooLong ∷ BadLimit ∷ ShortBuffer ∷ OverLimit ∷ Unreadable ∷ []
+
+-- A row of "Turned back": a refusal, and when it is given if no row above it is.
+pub record Row : Type 1 where
+  pub refusal : Refusal
+  pub Given : Type 0
 
 -- An answer, or a refusal before any.
 pub data Outcome (A : Type 0) : Type 0 where

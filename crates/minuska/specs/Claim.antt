@@ -1,15 +1,15 @@
 -- THE CLAIMS: what each answer means, over the relations alone, a field for each sentence. The computed answers meet them, and no others do (`proofs/`).
 use mathlib.Core.Path.{_≡_}
 use mathlib.Core.Logic.{_⊎_, _↔_}
-use mathlib.Core.List.{List}
+use mathlib.Core.List.{List, [], _∷_}
 use Prim.Native.Nat.{ℕ, zero, suc, _+_, _*_, _≤_, _<_}
 use lib.ListN.{length}
 use lib.IntN.{ℤ}
 use Rattle.minuska.specs.Term.{Term, nodeCount}
-use Rattle.minuska.specs.Rule.{Table, maxNodes, IsTable, IsConfiguration}
+use Rattle.minuska.specs.Rule.{Table, maxNodes, maxSteps, maxActions, IsTable, IsConfiguration}
 use Rattle.minuska.specs.Rewriting.{RewritesBy, Earlier, First, Applies, NextAbove, Stuck}
 use Rattle.minuska.specs.Path.{Yields, Before, Exceeds}
-use Rattle.minuska.specs.Answer.{Check, Good, Refused, BadTable, BadConfiguration, TooLong, BadLimit, ShortBuffer, Outcome, refused, gives, StepResult, stepped, stuck, tooLarge, endsStuck, endsSpent, endsOver, RunResult, ReplayResult, reproduced, exceeded, notReproduced}
+use Rattle.minuska.specs.Answer.{Check, Good, Refused, BadTable, BadConfiguration, TooLong, BadLimit, ShortBuffer, Row, Outcome, refused, gives, StepResult, stepped, stuck, tooLarge, endsStuck, endsSpent, endsOver, RunResult, ReplayResult, reproduced, exceeded, notReproduced}
 
 -- The two checks: good exactly if there is such a table, such a configuration; else 1, 2.
 pub record TableClaim (ws : List ℤ) (x : Check) : Type 0 where
@@ -84,25 +84,53 @@ pub record ReplayClaim (table : Table) (limit : ℕ) (log : List ℕ) (initial :
 pub record Meets {A : Type 0} (tableWords configWords : List ℤ) (Claim : Table → Term → A → Type 0) (o : Outcome A) : Type 0 where
   pub meets : (table : Table) (g : Term) (x : A) → IsTable tableWords table → IsConfiguration configWords g → o ≡ gives x → Claim table g x
 
--- "Turned back": each number is "given exactly if", lower numbers first. `Long`, `Bad` and `Short` are what 3, 4 and 5 ask.
-pub record Refuses {A : Type 0} (tableWords configWords : List ℤ) (Long : Type 0) (Bad : Term → Type 0) (Short : Type 0) (o : Outcome A) : Type 0 where
-  pub number1 : (o ≡ refused BadTable) ↔ ((t : Table) → IsTable tableWords t → ⊥)
-  pub number2 : (o ≡ refused BadConfiguration) ↔ (((t : Table) × IsTable tableWords t) × ((g : Term) → IsConfiguration configWords g → ⊥))
-  pub number3 : (o ≡ refused TooLong) ↔ ((t : Table) × (g : Term) × IsTable tableWords t × IsConfiguration configWords g × Long)
-  pub number4 : (o ≡ refused BadLimit) ↔ ((t : Table) × (g : Term) × IsTable tableWords t × IsConfiguration configWords g × (Long → ⊥) × Bad g)
-  pub number5 : (o ≡ refused ShortBuffer) ↔ ((t : Table) × (g : Term) × IsTable tableWords t × IsConfiguration configWords g × (Long → ⊥) × (Bad g → ⊥) × Short)
-  pub answers : ((x : A) × (o ≡ gives x)) ↔ ((t : Table) × (g : Term) × IsTable tableWords t × IsConfiguration configWords g × (Long → ⊥) × (Bad g → ⊥) × (Short → ⊥))
+-- "Turned back": "lower numbers go first", each is "given exactly if". The outcome is the refusal of the first row that holds; an answer if none does.
+abbrev pub FirstGiven : {A : Type 0} → List Row → Outcome A → Type 0
+FirstGiven {A} [] o = (x : A) × (o ≡ gives x)
+FirstGiven (r ∷ rows) o = ((o ≡ refused (r .refusal)) × r .Given) ⊎ ((r .Given → ⊥) × FirstGiven rows o)
 
--- 4: "N is 0, above 32,768, or below the opening's nodes"
+-- 1: "a table rule above is broken"; 2: "the configuration breaks its rule (empty slice included)"
+abbrev pub tableRow : List ℤ → Row
+tableRow table = record { refusal = BadTable; Given = (t : Table) → IsTable table t → ⊥ }
+
+abbrev pub configurationRow : List ℤ → Row
+configurationRow config = record { refusal = BadConfiguration; Given = (g : Term) → IsConfiguration config g → ⊥ }
+
+abbrev pub wordRows : List ℤ → List ℤ → List Row → List Row
+wordRows table config rows = tableRow table ∷ configurationRow config ∷ rows
+
+-- 3: "log above 4,096 or budget above 1,000,000"; 4: "N is 0, above 32,768, or below the opening's nodes"; 5: "a slice is shorter than stated"
+abbrev pub longRow : Type 0 → Row
+longRow Long = record { refusal = TooLong; Given = Long }
+
 abbrev pub LimitOutside : ℕ → Term → Type 0
 LimitOutside n g = (n ≡ 0) ⊎ (maxNodes < n) ⊎ (n < nodeCount g)
 
-abbrev pub StepRefuses : List ℤ → List ℤ → Outcome StepResult → Type 0
-StepRefuses table config = Refuses table config ⊥ (λ g. ⊥) ⊥
+abbrev pub limitRow : List ℤ → ℕ → Row
+limitRow config n = record { refusal = BadLimit; Given = (g : Term) × IsConfiguration config g × LimitOutside n g }
 
-abbrev pub RunRefuses : List ℤ → List ℤ → ℕ → ℕ → ℕ → ℕ → Outcome RunResult → Type 0
-RunRefuses table config budget n out spare = Refuses table config (1000000 < budget) (LimitOutside n) ((out < 2 * n) ⊎ (spare < 2 * n))
+abbrev pub shortRow : Type 0 → Row
+shortRow Short = record { refusal = ShortBuffer; Given = Short }
 
-abbrev pub ReplayRefuses : List ℤ → List ℤ → List ℕ → ℕ → ℕ → ℕ → ℕ → Outcome (ReplayResult Term) → Type 0
-ReplayRefuses table config log n out choices work =
-    Refuses table config (4096 < length log) (LimitOutside n) ((out < 2 * n) ⊎ (choices < length log) ⊎ (work < (length log + 1) * (2 * n + 2)))
+abbrev pub sizeRows : List ℤ → ℕ → Type 0 → Type 0 → List Row
+sizeRows config n Long Short = longRow Long ∷ limitRow config n ∷ shortRow Short ∷ []
+
+abbrev pub stepRows : List ℤ → List ℤ → List Row
+stepRows table config = wordRows table config []
+
+abbrev pub RunShort : ℕ → ℕ → ℕ → Type 0
+RunShort n out spare = (out < 2 * n) ⊎ (spare < 2 * n)
+
+abbrev pub runRows : List ℤ → List ℤ → ℕ → ℕ → ℕ → ℕ → List Row
+runRows table config budget n out spare = wordRows table config (sizeRows config n (maxSteps < budget) (RunShort n out spare))
+
+-- "a work area of at least (log length + 1) × (2N + 2) words"
+abbrev pub workWords : ℕ → List ℕ → ℕ
+workWords n log = (length log + 1) * (2 * n + 2)
+
+abbrev pub ReplayShort : ℕ → List ℕ → ℕ → ℕ → ℕ → Type 0
+ReplayShort n log out choices work = (out < 2 * n) ⊎ (choices < length log) ⊎ (work < workWords n log)
+
+abbrev pub replayRows : List ℤ → List ℤ → List ℕ → ℕ → ℕ → ℕ → ℕ → List Row
+replayRows table config log n out choices work =
+    wordRows table config (sizeRows config n (maxActions < length log) (ReplayShort n log out choices work))

@@ -12,7 +12,7 @@ use Rattle.minuska.specs.Answer.{Outcome, refused, gives, StepResult, st
 use Rattle.minuska.specs.Computed.Read.{decodeTerm}
 use Rattle.minuska.specs.Computed.Match.{tryMatch, unbound}
 use Rattle.minuska.specs.Computed.Value.{value}
-use Rattle.minuska.specs.Slice.{replayAnswer, replayNumber}
+use Rattle.minuska.specs.Slice.{replayAnswer, replaySays}
 use Rattle.minuska.specs.Computed.Outcome.{stepOutcome, replayOutcome}
 
 -- the paper's words are small, so most are written as ℕ
@@ -65,7 +65,7 @@ sameStep (gives stuck) (some y) = false
 sameStep (gives tooLarge) y = false
 
 abbrev pub printed : Outcome (ReplayResult Term) → Printed → Bool
-printed o (refusal m) = eqb (replayNumber (replayAnswer o)) m
+printed o (refusal m) = eqb (replaySays (replayAnswer o) .number) m
 printed (refused r) (lines ns ws) = false
 printed (refused r) noPath = false
 printed (gives (reproduced cs h)) (lines ns ws) = sameWords (words cs) (words ns) && sameWords (encode (single h)) ws

@@ -1,9 +1,10 @@
 -- What a routine returns and leaves: its answer with document 01's number, and every word of every lent slice afterwards (the columns of
 -- "Turned back", and "Step, run, replay"). Shut names, for contracts.
-use mathlib.Core.List.{List, _++_}
-use Prim.Native.Nat.{ℕ, _+_, _*_, _-_, _/_, min}
+use mathlib.Core.List.{List, [], _∷_, _++_}
+use Prim.Native.Nat.{ℕ, _*_, _-_, _/_, min}
 use lib.IntN.{ℤ, pos}
 use lib.ListN.{length, drop, replicate}
+use Rattle.minuska.specs.declared.Check.the-variants as C
 use Rattle.minuska.specs.declared.StepAnswer.{StepAnswer}
 use Rattle.minuska.specs.declared.StepAnswer.the-variants as S
 use Rattle.minuska.specs.declared.RunAnswer.{RunAnswer}
@@ -13,45 +14,85 @@ use Rattle.minuska.specs.declared.ReplayAnswer.the-variants as P
 use Rattle.minuska.specs.Term.{Term, single, nodeCount}
 use Rattle.minuska.specs.Word.{encode}
 use Rattle.minuska.specs.Rule.{maxNodes}
-use Rattle.minuska.specs.Answer.{OverLimit, number, Outcome, refused, gives, StepResult, stepped, stuck, tooLarge, Ending, endsStuck, endsSpent, endsOver, RunResult, ReplayResult, reproduced, exceeded, notReproduced}
+use Rattle.minuska.specs.Claim.{workWords}
+use Rattle.minuska.specs.Answer.{Refusal, OverLimit, number, Check, Outcome, refused, gives, StepResult, stepped, stuck, tooLarge, Ending, endsStuck, endsSpent, endsOver, RunResult, ReplayResult, reproduced, exceeded, notReproduced}
 
--- THE ANSWERS RETURNED: what each outcome is in the routine's enum, and document 01's number for each case of the enum, 0 where nothing is refused.
+-- WHAT IS SAID: document 01's number, 0 where nothing is refused, and the values that are returned with it.
+pub record Said : Type 0 where
+  pub number : ℕ
+  pub values : List ℕ
+
+abbrev pub told : List ℕ → Said
+told values = record { number = 0; values = values }
+
+abbrev pub turnedBack : Refusal → List ℕ → Said
+turnedBack r values = record { number = number r; values = values }
+
+-- by each case of an enum
+unfoldable pub checkSays : Check → Said
+checkSays C.Good = told []
+checkSays (C.Refused r) = turnedBack r []
+
+unfoldable pub stepSays : StepAnswer → Said
+stepSays (S.Stepped n a k) = told (n ∷ a ∷ k ∷ [])
+stepSays S.Stuck = told []
+stepSays (S.Refused r) = turnedBack r []
+
+unfoldable pub runSays : RunAnswer → Said
+runSays (R.Stuck k) = told (k ∷ [])
+runSays (R.Spent k) = told (k ∷ [])
+runSays (R.Over k) = turnedBack OverLimit (k ∷ [])
+runSays (R.Refused r) = turnedBack r []
+
+unfoldable pub replaySays : ReplayAnswer → Said
+replaySays P.Reproduced = told []
+replaySays P.NotReproduced = told []
+replaySays (P.Refused r) = turnedBack r []
+
+-- by an outcome
+abbrev pub outcomeSays : {A : Type 0} → (A → Said) → Outcome A → Said
+outcomeSays says (refused r) = turnedBack r []
+outcomeSays says (gives x) = says x
+
+abbrev pub stepResultSays : StepResult → Said
+stepResultSays (stepped n a h) = told (n ∷ a ∷ nodeCount h ∷ [])  -- "Answer: rule number, action, node count"
+stepResultSays stuck = told []
+stepResultSays tooLarge = turnedBack OverLimit []
+
+abbrev pub endingSays : Ending → List ℕ → Said
+endingSays endsStuck ks = told ks
+endingSays endsSpent ks = told ks
+endingSays endsOver ks = turnedBack OverLimit ks  -- "number; run also k"
+
+abbrev pub runResultSays : RunResult → Said
+runResultSays x = endingSays (x .ending) (x .steps ∷ [])
+
+abbrev pub replayResultSays : ReplayResult Term → Said
+replayResultSays (reproduced ns h) = told []
+replayResultSays exceeded = turnedBack OverLimit []
+replayResultSays notReproduced = told []
+
+-- THE ANSWERS RETURNED: what each outcome is in the routine's enum.
 unfoldable pub stepAnswer : Outcome StepResult → StepAnswer
 stepAnswer (refused r) = S.Refused r
-stepAnswer (gives (stepped n a h)) = S.Stepped n a (nodeCount h)  -- "Answer: rule number, action, node count"
+stepAnswer (gives (stepped n a h)) = S.Stepped n a (nodeCount h)
 stepAnswer (gives stuck) = S.Stuck
 stepAnswer (gives tooLarge) = S.Refused OverLimit
-
-unfoldable pub stepNumber : StepAnswer → ℕ
-stepNumber (S.Stepped n a k) = 0
-stepNumber S.Stuck = 0
-stepNumber (S.Refused r) = number r
 
 abbrev pub endedAs : Ending → ℕ → RunAnswer
 endedAs endsStuck k = R.Stuck k
 endedAs endsSpent k = R.Spent k
-endedAs endsOver k = R.Over k  -- "number; run also k"
+endedAs endsOver k = R.Over k
 
 unfoldable pub runAnswer : Outcome RunResult → RunAnswer
 runAnswer (refused r) = R.Refused r
 runAnswer (gives x) = endedAs (x .ending) (x .steps)
-
-unfoldable pub runNumber : RunAnswer → ℕ
-runNumber (R.Stuck k) = 0
-runNumber (R.Spent k) = 0
-runNumber (R.Over k) = number OverLimit
-runNumber (R.Refused r) = number r
 
 unfoldable pub replayAnswer : Outcome (ReplayResult Term) → ReplayAnswer
 replayAnswer (refused r) = P.Refused r
 replayAnswer (gives (reproduced ns h)) = P.Reproduced
 replayAnswer (gives exceeded) = P.Refused OverLimit
 replayAnswer (gives notReproduced) = P.NotReproduced
-
-unfoldable pub replayNumber : ReplayAnswer → ℕ
-replayNumber P.Reproduced = 0
-replayNumber P.NotReproduced = 0
-replayNumber (P.Refused r) = number r
 
 -- THE SLICES AFTERWARDS.
 -- Words written from the start of a slice, "the words behind it keep"; the same with zeros behind, up to n words.
@@ -83,10 +124,6 @@ runOut n (gives x) old = writeFilled (2 * n) (encode (single (x .last))) old
 unfoldable pub runSpare : ℕ → Outcome RunResult → List ℤ → List ℤ
 runSpare n (refused r) old = old
 runSpare n (gives x) old = writeZeros (2 * n) old
-
--- The replay: "a work area of at least (log length + 1) × (2N + 2) words".
-abbrev pub workWords : ℕ → List ℕ → ℕ
-workWords n log = (length log + 1) * (2 * n + 2)
 
 -- Reproduced: the list "goes to the picks, its last configuration to out, words behind both keep"; else both keep. "The work area's required
 -- words are 0, later ones keep."

@@ -1,8 +1,8 @@
 -- A whole call: refused by the checks, refused by the sizes, or answered.
-use mathlib.Core.Path.{_≡_, refl, ap, sym, _∙_}
-use mathlib.Core.Logic.{_⊎_, inl, inr}
-use mathlib.Core.List.{List}
-use Prim.Native.Nat.{ℕ, _+_, _*_, _<_}
+use mathlib.Core.Path.{_≡_, ap, sym, _∙_}
+use mathlib.Core.Logic.{inl, inr}
+use mathlib.Core.List.{List, [], _∷_}
+use Prim.Native.Nat.{ℕ, _+_, _*_, _≤_, _<_}
 use native.Mathlib.Nat.{suc-mul}
 use native.Mathlib.Numerals.{add-one}
 use native.Mathlib.Omega.{arith}
@@ -10,21 +10,21 @@ use lib.Dec.{ltb}
 use lib.IntN.{ℤ}
 use lib.ListN.{length}
 use Rattle.minuska.specs.Term.{Term, nodeCount}
-use Rattle.minuska.specs.Rule.{Table, IsTable, IsConfiguration}
+use Rattle.minuska.specs.Rule.{Table, maxActions, IsTable, IsConfiguration}
 use Rattle.minuska.specs.Answer.{Outcome, refused, gives, ReplayResult}
-use Rattle.minuska.specs.Claim.{TableClaim, ConfigurationClaim, LimitOutside, ReplayRefuses}
-use Rattle.minuska.specs.Slice.{outLimit, workWords, replayAnswer, replayOut, replayChoices, replayWork, writeZeros}
+use Rattle.minuska.specs.Claim.{FirstGiven, tableRow, configurationRow, longRow, LimitOutside, limitRow, shortRow, sizeRows, workWords, ReplayShort, replayRows}
+use Rattle.minuska.specs.Slice.{outLimit, replayAnswer, replayOut, replayChoices, replayWork, writeZeros}
 use Rattle.minuska.specs.Contract.{ReplayContract}
 use Rattle.minuska.specs.Computed.Replay.{replay}
-use Rattle.minuska.specs.Computed.Outcome.{tested, limitRefused, replayShort, tableCheck, configurationCheck, replayOutcome}
+use Rattle.minuska.specs.Computed.Outcome.{tested, sizeTests, limitRefused, replayShort, replayOutcome}
 use Rattle.minuska.specs.declared.Check.{Check}
 use Rattle.minuska.specs.declared.Check.the-variants.{Good, Refused}
 use Rattle.minuska.specs.declared.Refusal.{Refusal}
 use Rattle.minuska.specs.declared.Refusal.the-variants.{BadTable, BadConfiguration, TooLong, BadLimit, ShortBuffer, OverLimit, Unreadable}
 use Rattle.minuska.specs.declared.ReplayAnswer.{ReplayAnswer}
 use Rattle.minuska.specs.declared.ReplayAnswer.the-variants as P
-use Rattle.minuska.proofs.OutcomeLaw.{table-check, configuration-check, on-words, passed}
-use Rattle.minuska.proofs.RefusalLaw.{replay-refuses}
+use Rattle.minuska.proofs.OutcomeLaw.{on-words, passed}
+use Rattle.minuska.proofs.RefusalLaw.{row-holds, row-passed, replay-refuses}
 use Rattle.minuska.proofs.ContractLaw.{replay-contract}
 use Rattle.minuska.proofs.ShutLaw.{replay-outcome-is, replay-out-refused, replay-choices-refused, replay-work-refused, replay-work-gives}
 use Rattle.minuska.proofs.PositionLaw.{few-rules, order-length}
@@ -45,7 +45,7 @@ module _ (ws cs : List ℤ) (log : List ℕ) (limit : ℕ) (out : List ℤ) (cho
   abbrev outcome : Outcome (ReplayResult Term)
   outcome = replayOutcome ws cs log limit (length out) (length choices) (length work)
 
-  refuses : ReplayRefuses ws cs log limit (length out) (length choices) (length work) outcome
+  refuses : FirstGiven (replayRows ws cs log limit (length out) (length choices) (length work)) outcome
   refuses = replay-refuses ws cs log limit (length out) (length choices) (length work)
 
   -- a refusal: every slice keeps its words
@@ -72,15 +72,32 @@ module _ (ws cs : List ℤ) (log : List ℕ) (limit : ℕ) (out : List ℤ) (cho
     outside (inr (inl h)) = inr (inl h)
     outside (inr (inr h)) = inr (inr (omega (arith, words-are)))
 
-    inside : LimitOutside limit g → LimitBad (length cs) limit
-    inside (inl h) = inl h
-    inside (inr (inl h)) = inr (inl h)
-    inside (inr (inr h)) = inr (inr (omega (arith, words-are)))
+    inside : (h : Term) × IsConfiguration cs h × LimitOutside limit h → LimitBad (length cs) limit
+    inside (h, r, inl e) = inl e
+    inside (h, r, inr (inl e)) = inr (inl e)
+    inside (h, r, inr (inr e)) = inr (inr (omega (arith, configuration-length cs h r)))
+
+    -- the first two rows do not hold
+    abbrev Long : Type 0
+    Long = maxActions < length log
+
+    abbrev Short : Type 0
+    Short = ReplayShort limit log (length out) (length choices) (length work)
+
+    sized : FirstGiven (sizeRows cs limit Long Short) outcome
+    sized =
+        row-passed (configurationRow cs) (sizeRows cs limit Long Short) outcome (row-passed (tableRow ws) (configurationRow cs ∷ sizeRows cs limit Long Short) outcome refuses (λ f. f t p)) (λ f. f g q)
+
+    limited : length log ≤ maxActions → FirstGiven (limitRow cs limit ∷ shortRow Short ∷ []) outcome
+    limited l = row-passed (longRow Long) (limitRow cs limit ∷ shortRow Short ∷ []) outcome sized (λ h. let f : ⊥ = omega (arith, l) in f)
+
+    roomy : length log ≤ maxActions → (LimitBad (length cs) limit → ⊥) → FirstGiven (shortRow Short ∷ []) outcome
+    roomy l b = row-passed (limitRow cs limit) (shortRow Short ∷ []) outcome (limited l) (λ h. b (inside h))
 
     sizes : (e : Refusal) → SizesAre (length cs) (length log) limit (length out) (length choices) (length work) (Refused e) → outcome ≡ refused e
-    sizes TooLong h = refuses .number3 .1 (t, g, p, q, h)
-    sizes BadLimit h = refuses .number4 .1 (t, g, p, q, (λ l. let f : ⊥ = omega (arith, h .0) in f), outside (h .1))
-    sizes ShortBuffer h = refuses .number5 .1 (t, g, p, q, (λ l. let f : ⊥ = omega (arith, h .0) in f), (λ l. h .1 (inside l)), h .2)
+    sizes TooLong h = row-holds (longRow Long) (limitRow cs limit ∷ shortRow Short ∷ []) outcome sized h
+    sizes BadLimit h = row-holds (limitRow cs limit) (shortRow Short ∷ []) outcome (limited (h .0)) (g, q, outside (h .1))
+    sizes ShortBuffer h = row-holds (shortRow Short) [] outcome (roomy (h .0) (h .1)) (h .2)
     sizes BadTable h = absurd h
     sizes BadConfiguration h = absurd h
     sizes OverLimit h = absurd h
@@ -89,17 +106,18 @@ module _ (ws cs : List ℤ) (log : List ℕ) (limit : ℕ) (out : List ℤ) (cho
     -- none of them: the replay
     answers : Fitting (length cs) (length log) limit (length out) (length choices) (length work) → outcome ≡ gives (replay t limit log g)
     answers h =
-        let a = refuses .answers .1 (t, g, p, q, (λ l. let f : ⊥ = omega (arith, h .log-fits) in f), (λ l. bad (inside l)), short) in
-        let e = sym (on-words ws cs t g p q (λ u v. tested (ltb 4096 (length log)) (limitRefused limit v) (replayShort limit log (length out) (length choices) (length work)) (replay u limit log v)))
+        let a = row-passed (shortRow Short) [] outcome (roomy (h .log-fits) bad) short in
+        let tests = sizeTests (ltb maxActions (length log)) (limitRefused limit g) (replayShort limit log (length out) (length choices) (length work)) in
+        let e = sym (on-words ws cs t g p q (λ u v. tested (sizeTests (ltb maxActions (length log)) (limitRefused limit v) (replayShort limit log (length out) (length choices) (length work))) (replay u limit log v)))
         ∙ sym (replay-outcome-is ws cs log limit (length out) (length choices) (length work)) ∙ a .1 in
-        a .1 ∙ ap gives (sym (passed (ltb 4096 (length log)) (limitRefused limit g) (replayShort limit log (length out) (length choices) (length work)) (replay t limit log g) (a .0) e .3))
+        a .1 ∙ ap gives (sym (passed tests (replay t limit log g) (a .0) e .1))
       where
         bad : LimitBad (length cs) limit → ⊥
         bad (inl x) = omega (arith, h .limit-some)
         bad (inr (inl x)) = omega (arith, h .limit-fits)
         bad (inr (inr x)) = omega (arith, h .words-fit)
 
-        short : (length out < 2 * limit) ⊎ (length choices < length log) ⊎ (length work < (length log + 1) * (2 * limit + 2)) → ⊥
+        short : Short → ⊥
         short (inl x) = omega (arith, h .out-fits)
         short (inr (inl x)) = omega (arith, h .choices-fit)
         short (inr (inr x)) = omega (arith, h .work-fits)

@@ -9,12 +9,12 @@ use lib.IntN.{ℤ}
 use lib.ListN.{length, getD}
 use Rattle.minuska.specs.Term.{Term}
 use Rattle.minuska.specs.Rule.{Table, IsTable}
-use Rattle.minuska.specs.Computed.Step.{next, order, successorBy}
+use Rattle.minuska.specs.Computed.Step.{next, order}
 use Rattle.minuska.specs.Computed.Place.{Indexed}
-use Rattle.minuska.proofs.PositionLaw.{element-at, element-there, few-rules, order-names, next-carried, next-other}
+use Rattle.minuska.proofs.PositionLaw.{element-at, element-there, few-rules, order-names, next-other}
 use Rattle.minuska.specs.Computed.Place.{ActionIs, OrderedIs}
 use Rattle.replay.specs.Reading.{tableOf}
-use Rattle.replay.specs.Turns.{Sought}
+use Rattle.replay.specs.Turns.{Carries, Sought}
 use Rattle.replay.proofs.ReadingLaw.{is-table}
 
 -- where a search for a rule that carries an action has come: the positions passed give nothing
@@ -39,12 +39,12 @@ module _ (ws : List ℤ) (index : List ℕ) (indexed : Indexed ws index) where
   pub rule-small : (q : ℕ) → q < length (order t) → rule q < 256
   rule-small q h = let a = order-names t q h in let b = few-rules t (good .accepted) in omega arith
 
-  module _ (q b a : ℕ) (h : q < length (order t)) (is : ActionIs ws (rule q) b) (g : Term) where
-    pub gives-successor : b ≡ a → next t a (rule q) g ≡ successorBy t (rule q) g
-    gives-successor e = let r = element-there t (rule q) (order-names t q h) in next-carried t a (rule q) (r .0) (r .1) g (sym (is .is t (r .0) good (r .1)) ∙ e)
+  module _ (q b a : ℕ) (h : q < length (order t)) (is : ActionIs ws (rule q) b) where
+    pub carries : b ≡ a → Carries t a (rule q)
+    carries e = let r = element-there t (rule q) (order-names t q h) in record { rule = r .0; named = r .1; acts = sym (is .is t (r .0) good (r .1)) ∙ e }
 
-    pub gives-none : (b ≡ a → ⊥) → next t a (rule q) g ≡ none
-    gives-none e = let r = element-there t (rule q) (order-names t q h) in next-other t a (rule q) (r .0) (r .1) g (λ f. e (is .is t (r .0) good (r .1) ∙ f))
+    pub gives-none : (g : Term) → (b ≡ a → ⊥) → next t a (rule q) g ≡ none
+    gives-none g e = let r = element-there t (rule q) (order-names t q h) in next-other t a (rule q) (r .0) (r .1) g (λ f. e (is .is t (r .0) good (r .1) ∙ f))
 
   -- ---- the loop
   module _ (a from rules : ℕ) (all : rules ≡ length (order t)) where
@@ -60,7 +60,7 @@ module _ (ws : List ℤ) (index : List ℕ) (indexed : Indexed ws index) where
       acts = subst (λ (x : ℕ). ActionIs ws x b) (ordered-is p r here o) is
 
       pub seek-found : b ≡ a → Sought t rules a from p
-      seek-found e = record { above = s .above; within = s .within; skipped = s .skipped; carried = λ l g. gives-successor p b a here acts g e }
+      seek-found e = record { above = s .above; within = s .within; skipped = s .skipped; carried = λ l. carries p b a here acts e }
 
       pub seek-on : (b ≡ a → ⊥) → Seeking t a from rules (p + 1)
       seek-on e = record { above = omega (arith, s .above); within = omega arith; skipped = λ q i j g. at q i j g (decLt q p) }
@@ -72,4 +72,4 @@ module _ (ws : List ℤ) (index : List ℕ) (indexed : Indexed ws index) where
               subst (λ (x : ℕ). next t a (rule x) g ≡ none) f (gives-none p b a here acts g e)
 
     pub seek-end : (p : ℕ) → Seeking t a from rules p → rules ≤ p → Sought t rules a from p
-    seek-end p s h = record { above = s .above; within = s .within; skipped = s .skipped; carried = λ l g. absurd (let f : ⊥ = omega arith in f) }
+    seek-end p s h = record { above = s .above; within = s .within; skipped = s .skipped; carried = λ l. absurd (let f : ⊥ = omega arith in f) }

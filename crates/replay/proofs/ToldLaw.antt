@@ -1,29 +1,28 @@
--- What the step by one rule tells of its successor, and what it leaves in out.
-use mathlib.Core.Path.{_≡_, refl, ap, _∙_}
-use mathlib.Core.Bool.{Bool, true, false, cond}
+-- What the step by one rule tells of its successor, and what it leaves in out: read off its contract.
+use mathlib.Core.Path.{_≡_, refl, ap, _∙_, subst}
+use mathlib.Core.Bool.{true, false}
 use mathlib.Core.Option.{Option, none, some}
-use mathlib.Core.List.{List, _++_, append-assoc}
+use mathlib.Core.List.{List, [], _∷_, _++_, append-assoc}
 use Prim.Native.Nat.{ℕ, _*_, _≤_}
 use native.Mathlib.Omega.{arith}
 use lib.Dec.{leb}
 use lib.IntN.{ℤ}
-use lib.ListN.{length, getElem?, take, drop, length-append, length-drop, take-append-drop}
+use lib.ListN.{length, take, drop, length-append, length-drop, take-append-drop}
 use lib.Seq.{length-take-le, take-at, drop-at}
-use borrow.Author.Tests.{leb-true}
+use borrow.Author.Tests.{leb-true, le-leb, lt-leb}
 use Rattle.minuska.specs.Term.{Term, single, nodeCount}
 use Rattle.minuska.specs.Word.{encode}
 use Rattle.minuska.specs.Rule.{Table, IsTable, IsConfiguration}
-use Rattle.minuska.specs.Answer.{Outcome, gives, StepResult, stepped, tooLarge}
+use Rattle.minuska.specs.Answer.{Outcome, gives, StepResult, stepped, stuck, tooLarge}
+use Rattle.minuska.specs.Claim.{RuleClaim, tableRow, configurationRow}
 use Rattle.minuska.specs.Slice.{outLimit, stepAnswer, stepOut}
-use Rattle.minuska.specs.Computed.Step.{successorBy, actionIn, answered, withNumber, stepByRule}
-use Rattle.minuska.specs.Computed.Outcome.{ruleOutcome}
+use Rattle.minuska.specs.Computed.Step.{next}
 use Rattle.minuska.specs.declared.StepAnswer.{StepAnswer}
 use Rattle.minuska.specs.declared.StepAnswer.the-variants as S
-use Rattle.minuska.proofs.WordLaw.{encode-length}
 use Rattle.minuska.proofs.AcceptedLaw.{term-length}
-use Rattle.minuska.proofs.OutcomeLaw.{on-words}
-use Rattle.minuska.proofs.ShutLaw.{step-by-rule-is, rule-outcome-is}
-use Rattle.replay.specs.Turns.{TryContract}
+use Rattle.minuska.proofs.RefusalLaw.{row-passed}
+use Rattle.minuska.proofs.ReplayLaw.{NextTold, next-told}
+use Rattle.replay.specs.Turns.{Carries, TryContract}
 
 -- a successor within the limit fits
 pub limit-words : (room k : ℕ) → leb k (outLimit room) ≡ true → 2 * k ≤ room
@@ -40,7 +39,7 @@ pub record Tells (x : Option Term) (room : ℕ) (out out′ : List ℤ) (r : Ste
   pub wide : length out′ ≡ length out
   pub kept : drop room out′ ≡ drop room out
 
-module _ (t : Table) (n room : ℕ) (out : List ℤ) (fits : room ≤ length out) where
+module _ (room : ℕ) (out : List ℤ) (fits : room ≤ length out) where
   abbrev After : Outcome StepResult → List ℤ
   After y = stepOut y (take room out) ++ drop room out
 
@@ -68,21 +67,22 @@ module _ (t : Table) (n room : ℕ) (out : List ℤ) (fits : room ≤ length out
     unfolding front
     front-words k e = ap (take k) (append-assoc ws (drop (length ws) (take room out)) (drop room out)) ∙ take-at ws (drop (length ws) (take room out) ++ drop room out) k e
 
-  tells : (x : Option Term) → Tells x room out (After (gives (answered t (outLimit room) (withNumber n x)))) (stepAnswer (gives (answered t (outLimit room) (withNumber n x))))
+  tells : (o : Option Term) (x : StepResult) → NextTold o (outLimit room) x → Tells o room out (After (gives x)) (stepAnswer (gives x))
   unfolding stepAnswer stepOut front
-  tells none = record { told = refl; wide = ap length unchanged; kept = ap (drop room) unchanged }
-  tells (some h) = sized (leb (nodeCount h) (outLimit room)) refl
-    where
-      sized : (b : Bool) → leb (nodeCount h) (outLimit room) ≡ b → Tells (some h) room out (After (gives (cond b (stepped n (actionIn (getElem? t n)) h) tooLarge))) (stepAnswer (gives (cond b (stepped n (actionIn (getElem? t n)) h) tooLarge)))
-      sized true e =
-          let few : length (encode (single h)) ≤ room = let k = limit-words room (nodeCount h) e in omega (arith, term-length h) in
-          record { told = (h, refl, e, refl, front-words (encode (single h)) few (2 * nodeCount h) (term-length h)); wide = front-wide (encode (single h)) few; kept = front-kept (encode (single h)) few }
-      sized false e = record { told = (h, refl, e); wide = ap length unchanged; kept = ap (drop room) unchanged }
+  tells o stuck e = record { told = e; wide = ap length unchanged; kept = ap (drop room) unchanged }
+  tells o (stepped n a h) e =
+      let fit = le-leb (nodeCount h) (outLimit room) (e .1) in
+      let few : length (encode (single h)) ≤ room = let k = limit-words room (nodeCount h) fit in omega (arith, term-length h) in
+      record { told = (h, e .0, fit, refl, front-words (encode (single h)) few (2 * nodeCount h) (term-length h)); wide = front-wide (encode (single h)) few; kept = front-kept (encode (single h)) few }
+  tells o tooLarge e =
+      record { told = (e .0, e .1, lt-leb (nodeCount (e .0)) (outLimit room) (e .2)); wide = ap length unchanged; kept = ap (drop room) unchanged }
 
--- WHAT A TRIED RULE TELLS
-pub tried-tells : (ws cs : List ℤ) (t : Table) (g : Term) → IsTable ws t → IsConfiguration cs g → (n room : ℕ) (out out′ : List ℤ) (r : StepAnswer) → room ≤ length out
-    → TryContract ws cs n room out out′ r → Tells (successorBy t n g) room out out′ r
-tried-tells ws cs t g p q n room out out′ r h k =
-    let e : ruleOutcome ws cs n room ≡ gives (answered t (outLimit room) (withNumber n (successorBy t n g))) =
-    rule-outcome-is ws cs n room ∙ on-words ws cs t g p q (λ u v. gives (stepByRule u (outLimit room) n v)) ∙ ap gives (step-by-rule-is t (outLimit room) n g) in
-    rw (k .answer, k .leaves, e) (tells t n room out h (successorBy t n g))
+-- WHAT A TRIED RULE TELLS, where it carries the action
+pub tried-tells : (ws cs : List ℤ) (t : Table) (g : Term) → IsTable ws t → IsConfiguration cs g → (a n room : ℕ) → Carries t a n → (out out′ : List ℤ) (r : StepAnswer) → room ≤ length out
+    → TryContract ws cs n room out out′ r → Tells (next t a n g) room out out′ r
+tried-tells ws cs t g p q a n room c out out′ r h k =
+    let s = k .steps in
+    let (x, e) = row-passed (configurationRow cs) [] (s .outcome) (row-passed (tableRow ws) (configurationRow cs ∷ []) (s .outcome) (s .refuses) (λ f. f t p)) (λ f. f g q) in
+    let m : RuleClaim t (outLimit room) n g x = subst (λ (l : ℕ). RuleClaim t (outLimit l) n g x) (length-take-le room out h) (s .claim .meets t g x p q e) in
+    let told = next-told t (p .accepted) a n (c .rule) (c .named) (c .acts) (outLimit room) g x m in
+    rw (s .answer ∙ ap stepAnswer e, k .leaves, s .leaves ∙ ap (λ (o : Outcome StepResult). stepOut o (take room out)) e) (tells room out h (next t a n g) x told)

@@ -2,7 +2,7 @@
 use mathlib.Core.Path.{_≡_, refl, sym, ap, ap₂, _∙_, subst, subst⁻¹}
 use mathlib.Core.Bool.{Bool, true, false}
 use mathlib.Core.Logic.{inl, inr}
-use mathlib.Core.Option.{Option, none, some}
+use mathlib.Core.Option.{none, some}
 use mathlib.Core.List.{List}
 use Prim.Native.Nat.{ℕ, suc, _+_, _*_, _≤_, _<_}
 use native.Mathlib.Numerals.{add-one}
@@ -17,7 +17,7 @@ use Rattle.minuska.specs.Word.{encode}
 use Rattle.minuska.specs.Rule.{Table, IsTable, IsConfiguration}
 use Rattle.minuska.specs.Answer.{reproduced, notReproduced}
 use Rattle.minuska.specs.Slice.{outLimit}
-use Rattle.minuska.specs.Computed.Step.{next, order, successorBy}
+use Rattle.minuska.specs.Computed.Step.{next, order}
 use Rattle.minuska.specs.declared.StepAnswer.{StepAnswer}
 use Rattle.minuska.specs.declared.StepAnswer.the-variants as S
 use Rattle.minuska.proofs.KeepLaw.{keeps-configuration}
@@ -143,38 +143,35 @@ module _ (ws : List ℤ) (index : List ℕ) (rules room : ℕ) (log : List ℕ) 
               let z : d ≡ i = omega arith in
               subst (λ (y : ℕ). Begun rules room work₁ (base room y)) z (record { counted = sound₁ .frames d (omega arith) .counted; some = omega (arith, tries₁ .on); within = omega (arith, tries₁ .on) })
 
-      gives : (x : Option Term) → successorBy t rule (term d) ≡ x → next t action rule (term d) ≡ x
-      gives x e = k .carried found (term d) ∙ e
-
       -- a successor within the limit is a configuration
-      is-configuration : (h : Term) → successorBy t rule (term d) ≡ some h → leb (nodeCount h) (outLimit room) ≡ true → IsConfiguration (encode (single h)) h
+      is-configuration : (h : Term) → next t action rule (term d) ≡ some h → leb (nodeCount h) (outLimit room) ≡ true → IsConfiguration (encode (single h)) h
       is-configuration h e fit =
           let few = leb-true (nodeCount h) (outLimit room) fit in
           let here = is-term (wordsOf room work (base room d)) (s .frames d (omega arith) .accepted) in
-          record { accepted = keeps-configuration t (good .accepted) action rule (term d) h (here .accepted) (next-iff t (good .accepted) action rule (term d) h .0 (gives (some h) e)) (omega arith); words = refl }
+          record { accepted = keeps-configuration t (good .accepted) action rule (term d) h (here .accepted) (next-iff t (good .accepted) action rule (term d) h .0 e) (omega arith); words = refl }
 
       module _ (out′ : List ℤ) where
-        turned-none : successorBy t rule (term d) ≡ none → TurnSays t rules room log d work out′ work₁ (On d)
+        turned-none : next t action rule (term d) ≡ none → TurnSays t rules room log d work out′ work₁ (On d)
         unfolding stateOf leftOf
         turned-none e = (
           deep,
           sound₁,
           (λ b m. (
-            Stack.turn-none nodeCount (outLimit room) (next t) (order t) log term (termAt room work₁) position (positionAt room work₁) d q tries₁ b (gives none e),
-            Recall.recalls-none nodeCount (outLimit room) (next t) (order t) log (Held room (length log) work d) (Held room (length log) work₁ d) term (termAt room work₁) position (positionAt room work₁) d q tries₁ b m held₁ (rw (gives none e)),
+            Stack.turn-none nodeCount (outLimit room) (next t) (order t) log term (termAt room work₁) position (positionAt room work₁) d q tries₁ b e,
+            Recall.recalls-none nodeCount (outLimit room) (next t) (order t) log (Held room (length log) work d) (Held room (length log) work₁ d) term (termAt room work₁) position (positionAt room work₁) d q tries₁ b m held₁ (rw e),
           )),
           Stack.left-try nodeCount (outLimit room) (next t) (order t) log term (termAt room work₁) position (positionAt room work₁) d q tries₁,
         )
 
-        module _ (h : Term) (e : successorBy t rule (term d) ≡ some h) where
+        module _ (h : Term) (e : next t action rule (term d) ≡ some h) where
           turned-beyond : leb (nodeCount h) (outLimit room) ≡ false → TurnSays t rules room log d work out′ work₁ Beyond
           unfolding stateOf leftOf
           turned-beyond large = (
             sound₁,
             (λ b m. (
-              Stack.turn-beyond nodeCount (outLimit room) (next t) (order t) log term (termAt room work₁) position (positionAt room work₁) d q tries₁ b h (gives (some h) e) large,
+              Stack.turn-beyond nodeCount (outLimit room) (next t) (order t) log term (termAt room work₁) position (positionAt room work₁) d q tries₁ b h e large,
               Recall.recalls-beyond nodeCount (outLimit room) (next t) (order t) log (Held room (length log) work d) (Held room (length log) work₁ d) term (termAt room work₁) position (positionAt room work₁) d q tries₁ b m held₁
-                  (Stack.attempted nodeCount (outLimit room) (next t) (order t) log term (termAt room work₁) position (positionAt room work₁) d q tries₁ h false (gives (some h) e) large),
+                  (Stack.attempted nodeCount (outLimit room) (next t) (order t) log term (termAt room work₁) position (positionAt room work₁) d q tries₁ h false e large),
             )),
             Stack.left-try nodeCount (outLimit room) (next t) (order t) log term (termAt room work₁) position (positionAt room work₁) d q tries₁,
           )
@@ -192,7 +189,7 @@ module _ (ws : List ℤ) (index : List ℕ) (rules room : ℕ) (log : List ℕ) 
             turned-made l =
                 let all : length log ≡ suc d = omega arith in (
                   record { fits = few; accepted = record { term = h; is = is }; begun = λ i j. begun₁ i (omega arith) },
-                  λ b. Stack.turn-made nodeCount (outLimit room) (next t) (order t) log term (termAt room work₁) position (positionAt room work₁) d q tries₁ b h (gives (some h) e) fit (omega arith)
+                  λ b. Stack.turn-made nodeCount (outLimit room) (next t) (order t) log term (termAt room work₁) position (positionAt room work₁) d q tries₁ b h e fit (omega arith)
                       ∙ ap₂ (λ (m : ℕ) (g : Term). reproduced (chosen (order t) (positionAt room work₁) m) g) (sym all) (sym (term-of (take (2 * n) out′) h is)),
                 )
 
@@ -210,7 +207,7 @@ module _ (ws : List ℤ) (index : List ℕ) (rules room : ℕ) (log : List ℕ) 
               unfolding stateOf leftOf
               turned-known k =
                   let own : Held room (length log) work₁ d (suc d) h = known-held k in
-                  let try = Stack.attempted nodeCount (outLimit room) (next t) (order t) log term (termAt room work₁) position (positionAt room work₁) d q tries₁ h true (gives (some h) e) fit in (
+                  let try = Stack.attempted nodeCount (outLimit room) (next t) (order t) log term (termAt room work₁) position (positionAt room work₁) d q tries₁ h true e fit in (
                     deep,
                     sound₁,
                     (λ b m. (
@@ -243,11 +240,11 @@ module _ (ws : List ℤ) (index : List ℕ) (rules room : ℕ) (log : List ℕ) 
                   l,
                   in-sound rules room (length log) work₁ work₂ (suc d) c small ent frames₁ (record { term = h; is = is }) (λ i j. begun₁ i j .some) (λ i j k. sound₁ .spare i j),
                   (λ b m. (
-                    Stack.turn-down nodeCount (outLimit room) (next t) (order t) log term (termAt room work₂) position (positionAt room work₂) d q tries₂ b h (gives (some h) e) fit l top₂ (ent .position),
+                    Stack.turn-down nodeCount (outLimit room) (next t) (order t) log term (termAt room work₂) position (positionAt room work₂) d q tries₂ b h e fit l top₂ (ent .position),
                     Recall.recalls-down nodeCount (outLimit room) (next t) (order t) log (Held room (length log) work d) (Held room (length log) work₂ (suc d)) term (termAt room work₂) position (positionAt room work₂) d q tries₂ b m h
-                        (Stack.attempted nodeCount (outLimit room) (next t) (order t) log term (termAt room work₂) position (positionAt room work₂) d q tries₂ h true (gives (some h) e) fit) held₂ top₂ (ent .position),
+                        (Stack.attempted nodeCount (outLimit room) (next t) (order t) log term (termAt room work₂) position (positionAt room work₂) d q tries₂ h true e fit) held₂ top₂ (ent .position),
                   )),
-                  Stack.left-down nodeCount (outLimit room) (next t) (order t) log term (termAt room work₂) position (positionAt room work₂) d q tries₂ h (gives (some h) e) l top₂ (ent .position),
+                  Stack.left-down nodeCount (outLimit room) (next t) (order t) log term (termAt room work₂) position (positionAt room work₂) d q tries₂ h e l top₂ (ent .position),
                 )
 
                 long₂ : length work₂ ≡ length work
@@ -264,7 +261,7 @@ module _ (ws : List ℤ) (index : List ℕ) (rules room : ℕ) (log : List ℕ) 
         unmoved : (r x : Turned) (w : List ℤ) → r ≡ x → w ≡ work₁ → length out′ ≡ length out → drop room out′ ≡ drop room out → TurnSays t rules room log d work out′ work₁ x → TurnContract ws rules room log d out work out′ w r
         unmoved r x w e f a b z = rw (e, f) (record { kept = kept work₁ long₁ behind₁ a b; says = z })
 
-        settled : (a : StepAnswer) → Tells (successorBy t rule (term d)) room out out′ a → (w : List ℤ) (r : Turned) → Settles a (length log) room d out′ work₁ w r → TurnContract ws rules room log d out work out′ w r
+        settled : (a : StepAnswer) → Tells (next t action rule (term d)) room out out′ a → (w : List ℤ) (r : Turned) → Settles a (length log) room d out′ work₁ w r → TurnContract ws rules room log d out work out′ w r
         settled S.Stuck z w r k = unmoved r (On d) w (k .0) (k .1) (z .wide) (z .kept) (turned-none out′ (z .told))
         settled (S.Refused x) z w r k = unmoved r Beyond w (k .0) (k .1) (z .wide) (z .kept) (turned-beyond out′ (z .told .0) (z .told .1) (z .told .2))
         settled (S.Stepped m a n) z w r (inl k) =
@@ -285,15 +282,15 @@ module _ (ws : List ℤ) (index : List ℕ) (rules room : ℕ) (log : List ℕ) 
 
       -- the same, of what `try_at` answers and leaves
       module _ (out′ : List ℤ) (r : StepAnswer) (tr : TryContract ws (wordsOf room work (base room d)) rule room out out′ r) where
-        tells : Tells (successorBy t rule (term d)) room out out′ r
-        tells = tried-tells ws (wordsOf room work (base room d)) t (term d) good (is-term (wordsOf room work (base room d)) (s .frames d (omega arith) .accepted)) rule room out out′ r (rm .out-fits) tr
+        tells : Tells (next t action rule (term d)) room out out′ r
+        tells = tried-tells ws (wordsOf room work (base room d)) t (term d) good (is-term (wordsOf room work (base room d)) (s .frames d (omega arith) .accepted)) action rule room (k .carried found) out out′ r (rm .out-fits) tr
 
         pub turned : (w : List ℤ) (x : Turned) → Settles r (length log) room d out′ (advanced room work (base room d) (q + 1)) w x → TurnContract ws rules room log d out work out′ w x
         unfolding work₁
         turned w x k = settled out′ r tells w x k
 
         -- what `settle` asks of the answer, and of the frames
-        within : (x : StepAnswer) → Tells (successorBy t rule (term d)) room out out′ x → MadeWithin x room (length out′)
+        within : (x : StepAnswer) → Tells (next t action rule (term d)) room out out′ x → MadeWithin x room (length out′)
         within S.Stuck z = tt
         within (S.Refused x) z = tt
         within (S.Stepped m a n) z =

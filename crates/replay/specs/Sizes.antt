@@ -2,14 +2,14 @@
 use mathlib.Core.Path.{_≡_}
 use mathlib.Core.Logic.{_⊎_}
 use Prim.Native.Nat.{ℕ, _+_, _*_, _≤_, _<_}
-use Rattle.minuska.specs.Rule.{maxNodes}
+use Rattle.minuska.specs.Rule.{maxNodes, maxActions}
 use Rattle.minuska.specs.declared.Check.{Check}
 use Rattle.minuska.specs.declared.Check.the-variants.{Good, Refused}
 use Rattle.minuska.specs.declared.Refusal.the-variants.{BadTable, BadConfiguration, TooLong, BadLimit, ShortBuffer, OverLimit, Unreadable}
 
 -- none of them
 pub record Fitting (words log limit out choices work : ℕ) : Type 0 where
-  pub log-fits : log ≤ 4096
+  pub log-fits : log ≤ maxActions
   pub limit-some : 0 < limit
   pub limit-fits : limit ≤ maxNodes
   pub words-fit : words ≤ 2 * limit
@@ -28,9 +28,9 @@ Short log limit out choices work = (out < 2 * limit) ⊎ (choices < log) ⊎ (wo
 -- 3: "log above 4,096". "Lower numbers go first."
 abbrev pub SizesAre : ℕ → ℕ → ℕ → ℕ → ℕ → ℕ → Check → Type 0
 SizesAre words log limit out choices work Good = Fitting words log limit out choices work
-SizesAre words log limit out choices work (Refused TooLong) = 4096 < log
-SizesAre words log limit out choices work (Refused BadLimit) = (log ≤ 4096) × LimitBad words limit
-SizesAre words log limit out choices work (Refused ShortBuffer) = (log ≤ 4096) × (LimitBad words limit → ⊥) × Short log limit out choices work
+SizesAre words log limit out choices work (Refused TooLong) = maxActions < log
+SizesAre words log limit out choices work (Refused BadLimit) = (log ≤ maxActions) × LimitBad words limit
+SizesAre words log limit out choices work (Refused ShortBuffer) = (log ≤ maxActions) × (LimitBad words limit → ⊥) × Short log limit out choices work
 SizesAre words log limit out choices work (Refused BadTable) = ⊥
 SizesAre words log limit out choices work (Refused BadConfiguration) = ⊥
 SizesAre words log limit out choices work (Refused OverLimit) = ⊥

@@ -2,18 +2,18 @@
 use mathlib.Core.Path.{_≡_}
 use mathlib.Core.Bool.{Bool, true, false}
 use mathlib.Core.Logic.{_⊎_}
-use mathlib.Core.Option.{none}
+use mathlib.Core.Option.{none, some}
 use mathlib.Core.List.{List, _++_}
 use Prim.Native.Nat.{ℕ, suc, _+_, _*_, _≤_, _<_}
 use lib.Dec.{ltb}
 use lib.IntN.{ℤ}
-use lib.ListN.{length, getD, take, drop}
+use lib.ListN.{length, getD, getElem?, take, drop}
 use Rattle.minuska.specs.Term.{Term, nodeCount}
-use Rattle.minuska.specs.Rule.{Table}
+use Rattle.minuska.specs.Rule.{Rule, Table}
 use Rattle.minuska.specs.Answer.{ReplayResult, reproduced, exceeded, notReproduced}
-use Rattle.minuska.specs.Slice.{outLimit, stepAnswer, stepOut}
-use Rattle.minuska.specs.Computed.Step.{next, order, successorBy}
-use Rattle.minuska.specs.Computed.Outcome.{ruleOutcome}
+use Rattle.minuska.specs.Slice.{outLimit}
+use Rattle.minuska.specs.Contract.{StepByRuleContract}
+use Rattle.minuska.specs.Computed.Step.{next, order}
 use Rattle.minuska.specs.Computed.Place.{Indexed, Accepted}
 use Rattle.minuska.specs.declared.StepAnswer.{StepAnswer}
 use Rattle.minuska.specs.declared.StepAnswer.the-variants as S
@@ -85,17 +85,24 @@ pub record Kept (room depth : ℕ) (out work out′ work′ : List ℤ) : Type 0
   pub wide : length out′ ≡ length out
   pub out-kept : drop room out′ ≡ drop room out
 
+-- rule n carries an action
+pub record Carries (t : Table) (a n : ℕ) : Type 0 where
+  pub rule : Rule
+  pub named : getElem? t n ≡ some rule
+  pub acts : rule .action ≡ a
+
 -- the first position from one on whose rule carries the action, or the end of the order
 pub record Sought (t : Table) (rules a from r : ℕ) : Type 0 where
   pub above : from ≤ r
   pub within : r ≤ rules
   pub skipped : (q : ℕ) → from ≤ q → q < r → (g : Term) → next t a (getD (order t) q 0) g ≡ none
-  pub carried : r < rules → (g : Term) → next t a (getD (order t) r 0) g ≡ successorBy t (getD (order t) r 0) g
+  pub carried : r < rules → Carries t a (getD (order t) r 0)
 
 -- the step by rule n, its successor made in the first `room` words of out
 pub record TryContract (ws cs : List ℤ) (n room : ℕ) (out out′ : List ℤ) (r : StepAnswer) : Type 0 where
-  pub answer : r ≡ stepAnswer (ruleOutcome ws cs n room)
-  pub leaves : out′ ≡ stepOut (ruleOutcome ws cs n room) (take room out) ++ drop room out
+  pub front : List ℤ
+  pub steps : StepByRuleContract ws cs n (take room out) front r
+  pub leaves : out′ ≡ front ++ drop room out
 
 -- ---- what a rule's answer comes to at depth d of a log of m actions: a successor fits its room; the turn's answer; the work area
 abbrev pub MadeWithin : StepAnswer → ℕ → ℕ → Type 0

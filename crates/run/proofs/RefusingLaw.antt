@@ -13,10 +13,10 @@ use Rattle.minuska.specs.declared.Check.the-variants.{Good, Refused}
 use Rattle.minuska.specs.declared.Refusal.{Refusal}
 use Rattle.minuska.specs.declared.Refusal.the-variants.{TooLong, BadLimit, ShortBuffer}
 use Rattle.minuska.specs.Term.{Term, nodeCount}
-use Rattle.minuska.specs.Rule.{Table, maxNodes, IsTable, IsConfiguration}
+use Rattle.minuska.specs.Rule.{Table, maxNodes, maxSteps, IsTable, IsConfiguration}
 use Rattle.minuska.specs.Answer.{Outcome, refused, gives, RunResult}
 use Rattle.minuska.specs.Computed.Run.{run}
-use Rattle.minuska.specs.Computed.Outcome.{tested, limitRefused, runShort, runOutcome, tableCheck, configurationCheck, orSecond}
+use Rattle.minuska.specs.Computed.Outcome.{tested, sizeTests, limitRefused, runShort, runOutcome, tableCheck, configurationCheck, orSecond}
 use Rattle.minuska.proofs.OutcomeLaw.{on-words}
 use Rattle.minuska.proofs.ShutLaw.{run-outcome-is}
 use Rattle.minuska.proofs.AcceptedLaw.{configuration-length, refused-first}
@@ -39,28 +39,28 @@ module _ (nodes budget limit out spare : ℕ) where
   abbrev badLimit : Bool
   badLimit = eqb limit 0 || ltb maxNodes limit || ltb limit nodes
 
-  pub too-long : 1000000 < budget → Refused TooLong ≡ runRefusal nodes budget limit out spare
+  pub too-long : maxSteps < budget → Refused TooLong ≡ runRefusal nodes budget limit out spare
   unfolding runRefusal
-  too-long h = rw (lt-ltb 1000000 budget h)
+  too-long h = rw (lt-ltb maxSteps budget h)
 
-  bad-limit : budget ≤ 1000000 → badLimit ≡ true → Refused BadLimit ≡ runRefusal nodes budget limit out spare
+  bad-limit : budget ≤ maxSteps → badLimit ≡ true → Refused BadLimit ≡ runRefusal nodes budget limit out spare
   unfolding runRefusal
-  bad-limit h e = rw (le-ltb 1000000 budget h, e)
+  bad-limit h e = rw (le-ltb maxSteps budget h, e)
 
-  pub limit-none : budget ≤ 1000000 → limit ≡ 0 → Refused BadLimit ≡ runRefusal nodes budget limit out spare
+  pub limit-none : budget ≤ maxSteps → limit ≡ 0 → Refused BadLimit ≡ runRefusal nodes budget limit out spare
   limit-none h e = bad-limit h (or-first (eqb limit 0 || ltb maxNodes limit) (ltb limit nodes) (or-first (eqb limit 0) (ltb maxNodes limit) (eq-eqb limit 0 e)))
 
-  pub limit-high : budget ≤ 1000000 → ltb maxNodes limit ≡ true → Refused BadLimit ≡ runRefusal nodes budget limit out spare
+  pub limit-high : budget ≤ maxSteps → ltb maxNodes limit ≡ true → Refused BadLimit ≡ runRefusal nodes budget limit out spare
   limit-high h e = bad-limit h (or-first (eqb limit 0 || ltb maxNodes limit) (ltb limit nodes) (or-second (eqb limit 0) (ltb maxNodes limit) e))
 
-  pub limit-low : budget ≤ 1000000 → ltb limit nodes ≡ true → Refused BadLimit ≡ runRefusal nodes budget limit out spare
+  pub limit-low : budget ≤ maxSteps → ltb limit nodes ≡ true → Refused BadLimit ≡ runRefusal nodes budget limit out spare
   limit-low h e = bad-limit h (or-second (eqb limit 0 || ltb maxNodes limit) (ltb limit nodes) e)
 
   -- the limit is good
-  module _ (h : budget ≤ 1000000) (z : limit ≡ 0 → ⊥) (a : ltb maxNodes limit ≡ false) (b : ltb limit nodes ≡ false) where
+  module _ (h : budget ≤ maxSteps) (z : limit ≡ 0 → ⊥) (a : ltb maxNodes limit ≡ false) (b : ltb limit nodes ≡ false) where
     short : (s : Bool) → runShort limit out spare ≡ s → runRefusal nodes budget limit out spare ≡ refusalOf false false s
     unfolding runRefusal
-    short s e = rw (le-ltb 1000000 budget h, ne-eqb limit 0 z, a, b, e)
+    short s e = rw (le-ltb maxSteps budget h, ne-eqb limit 0 z, a, b, e)
 
     pub out-short : out < 2 * limit → Refused ShortBuffer ≡ runRefusal nodes budget limit out spare
     out-short o = sym (short true (or-first (ltb out (2 * limit)) (ltb spare (2 * limit)) (lt-ltb out (2 * limit) o)))
@@ -81,13 +81,13 @@ module _ (nodes budget limit out spare : ℕ) where
   pub allowed : runRefusal nodes budget limit out spare ≡ Good → Allowed nodes budget limit out spare
   unfolding runRefusal
   allowed e =
-      let p = all-false (ltb 1000000 budget) badLimit (runShort limit out spare) e in
+      let p = all-false (ltb maxSteps budget) badLimit (runShort limit out spare) e in
       let q = neither (eqb limit 0 || ltb maxNodes limit) (ltb limit nodes) (p .1) in
       let r = neither (eqb limit 0) (ltb maxNodes limit) (q .0) in
       let s = neither (ltb out (2 * limit)) (ltb spare (2 * limit)) (p .2) in
       let z : limit ≡ 0 → ⊥ = eqb-false limit 0 (r .0) in
       record {
-        few = ltb-false 1000000 budget (p .0);
+        few = ltb-false maxSteps budget (p .0);
         positive = omega (arith, z);
         bounded = ltb-false maxNodes limit (r .1);
         fits = ltb-false limit nodes (q .1);
@@ -106,7 +106,7 @@ abbrev outcomeOf : Check → RunResult → Outcome RunResult
 outcomeOf Good x = gives x
 outcomeOf (Refused e) x = refused e
 
-tests : (l b s : Bool) (x : RunResult) → tested l b s x ≡ outcomeOf (refusalOf l b s) x
+tests : (l b s : Bool) (x : RunResult) → tested (sizeTests l b s) x ≡ outcomeOf (refusalOf l b s) x
 tests true b s x = refl
 tests false true s x = refl
 tests false false true x = refl
@@ -121,8 +121,8 @@ module _ (ws cs : List ℤ) (budget limit out spare : ℕ) where
     unfolding runRefusal
     outcome-is =
         let n : length cs / 2 ≡ nodeCount g = omega (arith, configuration-length cs g q) in
-        run-outcome-is ws cs budget limit out spare ∙ on-words ws cs t g p q (λ u h. tested (ltb 1000000 budget) (limitRefused limit h) (runShort limit out spare) (run u limit budget h)) ∙
-        tests (ltb 1000000 budget) (limitRefused limit g) (runShort limit out spare) (run t limit budget g) ∙ rw n
+        run-outcome-is ws cs budget limit out spare ∙ on-words ws cs t g p q (λ u h. tested (sizeTests (ltb maxSteps budget) (limitRefused limit h) (runShort limit out spare)) (run u limit budget h)) ∙
+        tests (ltb maxSteps budget) (limitRefused limit g) (runShort limit out spare) (run t limit budget g) ∙ rw n
 
     pub late-refused : (e : Refusal) → refusal ≡ Refused e → runOutcome ws cs budget limit out spare ≡ refused e
     late-refused e r = outcome-is ∙ rw r

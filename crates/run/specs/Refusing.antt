@@ -5,7 +5,7 @@ use lib.Dec.{eqb, ltb}
 use Rattle.minuska.specs.declared.Check.{Check}
 use Rattle.minuska.specs.declared.Check.the-variants.{Good, Refused}
 use Rattle.minuska.specs.declared.Refusal.the-variants.{TooLong, BadLimit, ShortBuffer}
-use Rattle.minuska.specs.Rule.{maxNodes}
+use Rattle.minuska.specs.Rule.{maxNodes, maxSteps}
 use Rattle.minuska.specs.Computed.Outcome.{runShort}
 
 -- lower numbers go first
@@ -17,11 +17,11 @@ refusalOf false false false = Good
 
 -- 3: "budget above 1,000,000"; 4: "N is 0, above 32,768, or below the opening's nodes"; 5: "a slice is shorter than stated"
 unfoldable pub runRefusal : ℕ → ℕ → ℕ → ℕ → ℕ → Check
-runRefusal nodes budget limit out spare = refusalOf (ltb 1000000 budget) (eqb limit 0 || ltb maxNodes limit || ltb limit nodes) (runShort limit out spare)
+runRefusal nodes budget limit out spare = refusalOf (ltb maxSteps budget) (eqb limit 0 || ltb maxNodes limit || ltb limit nodes) (runShort limit out spare)
 
 -- where there is none
 pub record Allowed (nodes budget limit out spare : ℕ) : Type 0 where
-  pub few : budget ≤ 1000000
+  pub few : budget ≤ maxSteps
   pub positive : 0 < limit
   pub bounded : limit ≤ maxNodes
   pub fits : nodes ≤ limit

@@ -8,6 +8,9 @@ use native.Mathlib.Omega.{arith}
 use lib.Dec.{T}
 use lib.IntN.{ℤ, pos}
 use lib.ListN.{length, getD, length-append}
+use mir.Syntax.{w64}
+use mir.Val.{SFits, ofZ}
+use Rattle.term.proofs.SignedLaw.{same-bits}
 use Rattle.minuska.specs.Basics.{_>>=_, sameWhole}
 use Rattle.minuska.specs.Term.{Label, Forest, nil, node, Term, single, termCount, role, groundAt}
 use Rattle.minuska.specs.Word.{tagWord, datumWord, okHead, ok, encode}
@@ -27,6 +30,10 @@ use Rattle.step.specs.declared.matching.Turn.the-variants.{Same, Misfit}
 
 abbrev pub word : List ℤ → ℕ → ℤ
 word ws i = getD ws i (pos 0)
+
+-- two words that were read, with the same bits
+pub word-same : {a b x y : ℤ} → SFits w64 a → SFits w64 b → a ≡ x → b ≡ y → ofZ w64 a ≡ ofZ w64 b → x ≡ y
+word-same {a} {b} f g p q e = sym p ∙ (same-bits a b f g e ∙ q)
 
 -- ---- the match of lists of terms, over their words
 alone : (o : Option Valuation) → (o >>= λ τ. matchWords [] [] τ) ≡ o

@@ -1,6 +1,7 @@
 -- From a table's index and a rule's number to what stands there: the left, the conditions and the right of that rule.
-use mathlib.Core.Path.{_≡_, sym, _∙_, ap}
+use mathlib.Core.Path.{_≡_, refl, sym, _∙_, ap}
 use mathlib.Core.Bool.{Bool, true, false, false≢true}
+use mathlib.Core.Logic.{inl, inr}
 use mathlib.Core.Option.{Option, some}
 use mathlib.Core.List.{List, [], _∷_}
 use Prim.Native.Nat.{ℕ, _+_, _*_, _<_, _≤_}
@@ -11,10 +12,10 @@ use lib.Dec.{T}
 use lib.ListN.{length, getD, getElem?}
 use Rattle.minuska.specs.Basics.{_>>=_, every}
 use Rattle.minuska.specs.Term.{Term, single}
-use Rattle.minuska.specs.Word.{encode}
+use Rattle.minuska.specs.Word.{datumWord, encode}
 use Rattle.minuska.specs.Satisfaction.{Valuation, SideCondition, Matches}
 use Rattle.minuska.specs.Rule.{Rule, Table, conditionWords, okRule, okCondition, IsTable}
-use Rattle.minuska.specs.Computed.Match.{tryMatch, unbound}
+use Rattle.minuska.specs.Computed.Match.{unbound}
 use Rattle.minuska.specs.Computed.Value.{value}
 use Rattle.minuska.specs.Computed.Walk.{emit}
 use Rattle.minuska.specs.Computed.Place.{Indexed, Accepted}
@@ -25,11 +26,12 @@ use Rattle.minuska.proofs.MatchLaw.{match-sound, matches-binds}
 use Rattle.minuska.proofs.ConditionLaw.{has-value}
 use Rattle.minuska.proofs.OrderLaw.{named-below}
 use Rattle.minuska.proofs.PositionLaw.{few-rules}
+use Rattle.minuska.proofs.PlaceLaw.{stands-head, stands-word}
 use Rattle.minuska.proofs.WriteLaw.{emit-values}
-use Rattle.minuska.proofs.IndexLaw.{RulePlaced, rightOf, conditionsOf, rule-placed, left-stands, right-stands, conditions-stand}
-use Rattle.step.specs.Apply.{RuleAt, Names, Matched, SomeMatched, MatchIs, RootIs, HoldIs, MeasureIs, WordsFit, WriteIs}
+use Rattle.minuska.proofs.IndexLaw.{RulePlaced, rightOf, rule-placed, left-stands, right-stands, conditions-stand}
+use Rattle.step.specs.Apply.{RuleAt, Names, Matched, SomeMatched, MatchIs, rootTag, RootMeets, RootIs, HoldIs, MeasureIs, WordsFit, WriteIs}
 use Rattle.step.specs.Matching.{IsLeft, LeftIn, MatchContract}
-use Rattle.step.specs.Conditions.{Side, Sides, Conditions, SomeConditions, HoldAllIs}
+use Rattle.step.specs.Conditions.{Sides, Conditions, SomeConditions, HoldAllIs}
 use Rattle.step.specs.Right.{Rest, SomeRest, MeasureRightIs, FittingRest, WriteRightIs}
 use Rattle.step.specs.declared.right.Fit.{Fit}
 use Rattle.step.proofs.MatchingLaw.{word}
@@ -38,10 +40,6 @@ use Rattle.step.proofs.MatchingAnswer.{root-other}
 -- the configuration has a root
 pub root-there : {cs : List ℤ} → Accepted cs → 2 ≤ length cs
 root-there a = omega (arith, ap length (a .is .words))
-
--- nothing is said of a left that may match
-pub root-open : {ws cs : List ℤ} {n : ℕ} → RootIs ws cs n false
-root-open = record { differs = λ e. absurd (false≢true e) }
 
 module _ (ws : List ℤ) (index : List ℕ) (n : ℕ) (x : Indexed ws index) where
   pub named-within : Names ws n → 4 * n + 3 < 1024
@@ -82,8 +80,43 @@ module _ (ws : List ℤ) (index : List ℕ) (n : ℕ) (x : Indexed ws index) whe
   pub root-within : Names ws n → getD index (4 * n + 0) 0 + 4 ≤ length ws
   root-within a = let l = left-in a in omega (arith, l .is .stands .within)
 
-  pub root-differs : (cs : List ℤ) → (word ws (getD index (4 * n + 0) 0 + 2) ≡ pos 3 → ⊥) → (word ws (getD index (4 * n + 0) 0 + 2) ≡ word cs 0 → word ws (getD index (4 * n + 0) 0 + 2 + 1) ≡ word cs 1 → ⊥) → RootIs ws cs n true
-  root-differs cs plain f = record { differs = λ e rule g a. root-other (is-left (a .table) rule (a .is) (a .numbered)) (a .configuration) plain f }
+  module _ (cs : List ℤ) where
+    abbrev at : ℕ
+    at = getD index (4 * n + 0) 0 + 2
+
+    module _ (rule : Rule) (g : Term) (a : RuleAt ws cs n rule g) where
+      abbrev left : IsLeft ws at (getD index (4 * n + 1) 0) (rule .left)
+      left = is-left (a .table) rule (a .is) (a .numbered)
+
+      left-tag : word ws at ≡ rootTag (rule .left)
+      left-tag = stands-head (left .stands) (pos 0)
+
+      left-datum : word ws (at + 1) ≡ datumWord (rule .left .label)
+      left-datum = stands-word (left .stands) 1 (pos 0) (omega arith)
+
+      ground-tag : word cs 0 ≡ rootTag g
+      ground-tag = ap (λ (c : List ℤ). word c 0) (sym (a .configuration .words))
+
+      ground-datum : word cs 1 ≡ datumWord (g .label)
+      ground-datum = ap (λ (c : List ℤ). word c 1) (sym (a .configuration .words))
+
+    pub root-differs : (word ws at ≡ pos 3 → ⊥) → (word ws at ≡ word cs 0 → word ws (at + 1) ≡ word cs 1 → ⊥) → RootIs ws cs n true
+    root-differs plain f =
+        record { is = λ rule g a. (λ e. apart rule g a, λ h. refl); differs = λ e rule g a. root-other (left rule g a) (a .configuration) plain f }
+      where
+        apart : (rule : Rule) (g : Term) → RuleAt ws cs n rule g → RootMeets (rule .left) g → ⊥
+        apart rule g a (inl e) = plain (left-tag rule g a ∙ e)
+        apart rule g a (inr h) = f (left-tag rule g a ∙ (h .0 ∙ sym (ground-tag rule g a))) (left-datum rule g a ∙ (h .1 ∙ sym (ground-datum rule g a)))
+
+    root-meets : ((rule : Rule) (g : Term) → RuleAt ws cs n rule g → RootMeets (rule .left) g) → RootIs ws cs n false
+    root-meets f =
+        record { is = λ rule g a. (λ e. absurd (false≢true e), λ h. absurd (h (f rule g a))); differs = λ e. absurd (false≢true e) }
+
+    pub root-variable : word ws at ≡ pos 3 → RootIs ws cs n false
+    root-variable e = root-meets (λ rule g a. inl (sym (left-tag rule g a) ∙ e))
+
+    pub root-same : word ws at ≡ word cs 0 → word ws (at + 1) ≡ word cs 1 → RootIs ws cs n false
+    root-same t d = root-meets (λ rule g a. inr (sym (left-tag rule g a) ∙ (t ∙ ground-tag rule g a), sym (left-datum rule g a) ∙ (d ∙ ground-datum rule g a)))
 
   module _ (cs : List ℤ) (starts ends : List ℕ) where
     module _ (rule : Rule) (g : Term) (ρ : Valuation) (m : Matched ws cs n starts ends rule g ρ) where

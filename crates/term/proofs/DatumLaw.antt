@@ -3,7 +3,7 @@ use mathlib.Core.Path.{_≡_, refl, sym, _∙_, ap, subst}
 use mathlib.Core.Bool.{Bool, true, false, cond, true≢false}
 use Prim.Native.Nat.{ℕ, zero, suc, _+_, _-_, _≤_, _<_, _^_}
 use native.Mathlib.Omega.{arith}
-use lib.Dec.{T, eqb, ltb, ltb→lt, lt→ltb, eqb-refl, lit<}
+use lib.Dec.{T, eqb, ltb, ltb→lt, lt→ltb, lit<}
 use lib.IntN.{ℤ, pos, negsuc, pos-ne-negsuc}
 use lib.ListN.{getD-replicate}
 use lib.Signed.{ltZ, mag}
@@ -15,7 +15,7 @@ use Rattle.minuska.specs.Function.{functionAt}
 use Rattle.minuska.specs.Term.{Label, call, error, symbol, truth, variable, whole}
 use Rattle.minuska.specs.Word.{datumWord, okHead, tagWord}
 use Rattle.term.specs.Datum.{mostDatum, leastDatum}
-use Rattle.term.specs.TermEnd.{anyLabel, arityOf, childCountOf}
+use Rattle.term.specs.TermEnd.{anyLabel, childCountOf}
 use Rattle.term.specs.declared.Count.the-variants.{Is, Bad}
 use Rattle.term.proofs.NodeLaw.{Node, good, bad}
 
@@ -106,14 +106,6 @@ bit : (n : ℕ) → n ≤ 1 → (b : Bool) × (cond b 1 0 ≡ n)
 bit zero h = (false, refl)
 bit (suc zero) h = (true, refl)
 bit (suc (suc n)) h = absurd (let f : ⊥ = omega arith in f)
-
-pub range-call : (d : ℤ) → InRange 4 d → (c : ℕ) × (pos c ≡ d) × (c < 15)
-unfolding leastDatum mostDatum
-range-call d r = let n = number d 14 (r .low) (r .high) in (n .0, n .1, (let h = n .2 in omega arith))
-
-pub good-call : (c : ℕ) → c < 15 → Is (arityOf c) ≡ childCountOf (pos 4) (pos c)
-unfolding arityOf
-good-call c h = good (call c) (functionAt c .arity) (pos 4) (pos c) (and-both (ltb c 15) (eqb (functionAt c .arity) (functionAt c .arity)) (lt→ltb c 15 h) (eqb-refl (functionAt c .arity))) refl refl
 
 pub range-plain : (tag : ℕ) (d : ℤ) → tag < 16 → (tag ≡ 4 → ⊥) → InRange tag d → Is (tag - 8) ≡ childCountOf (pos tag) d
 unfolding leastDatum mostDatum

@@ -3,23 +3,18 @@ use mathlib.Core.Path.{_≡_, refl, sym, _∙_, ap, subst⁻¹}
 use mathlib.Core.Bool.{Bool, true, false}
 use mathlib.Core.Logic.{_↔_}
 use mathlib.Core.Option.{Option, some}
-use mathlib.Core.List.{List, _∷_, _++_}
-use Prim.Native.Nat.{ℕ, _+_}
+use mathlib.Core.List.{List}
+use Prim.Native.Nat.{ℕ}
 use native.Mathlib.Omega.{arith}
 use lib.Dec.{T}
 use lib.IntN.{ℤ}
-use lib.ListN.{length}
 use Rattle.minuska.specs.Term.{Term, single}
 use Rattle.minuska.specs.Word.{encode}
 use Rattle.minuska.specs.Satisfaction.{Valuation, SideCondition, Holds}
-use Rattle.minuska.specs.Rule.{occurs, okCondition, conditionWords}
 use Rattle.minuska.specs.Computed.Value.{value, agreeing, agree, holds}
-use Rattle.minuska.specs.Computed.Place.{Stands, Binds, Decides}
+use Rattle.minuska.specs.Computed.Place.{Decides}
 use Rattle.minuska.proofs.Tests.{single-injective}
 use Rattle.minuska.proofs.WordLaw.{encode-injective}
-use Rattle.minuska.proofs.Good.{good-condition}
-use Rattle.minuska.proofs.PlaceLaw.{stands-first, stands-second}
-use Rattle.minuska.proofs.ConditionLaw.{has-value}
 use Rattle.minuska.proofs.ValueLaw.{agreeing-iff, holds-iff}
 use Rattle.value.specs.Value.{valueWords, IsValue}
 use Rattle.value.specs.Evaluate.{HasValue, Meant, ConditionAt, ConditionMeant}
@@ -57,21 +52,3 @@ module _ (table config : List ℤ) where
           satisfied = subst⁻¹ (λ (x : Bool). T x ↔ Holds ρ c) h (holds-iff ρ c (w .first-has .placed .expressions) (w .second-has .placed .expressions));
           next = omega arith;
         }
-
-  -- an accepted condition of a table stands, where the left's variables are bound; the next ones follow
-  pub condition-stands : (starts ends : List ℕ) (at : ℕ) (ρ : Valuation) (left : Term) (c : SideCondition) (cs : List SideCondition) → T (okCondition left c) → Stands table at (conditionWords (c ∷ cs)) → Binds config starts ends ρ → ((v : ℕ) → T (occurs v (single left)) → (t : Term) × (ρ v ≡ some t)) → ConditionAt table config starts ends at ρ c × Stands table (at + length (encode (single (c .first))) + length (encode (single (c .second)))) (conditionWords cs)
-  condition-stands starts ends at ρ left c cs x s b bound =
-      let g = good-condition left c x in
-      let s₁ = encode (single (c .first)) in
-      let s₂ = encode (single (c .second)) in
-      let v = has-value (single left) ρ bound (c .first) (g .first-covered) in
-      let w = has-value (single left) ρ bound (c .second) (g .second-covered) in
-      let r : Stands table (at + length s₁) (s₂ ++ conditionWords cs) = stands-second s₁ (s₂ ++ conditionWords cs) s in (
-        record {
-          first = v .0;
-          second = w .0;
-          first-has = record { placed = record { good = g .first .inRange; expressions = g .first-expression; stands = stands-first s₁ (s₂ ++ conditionWords cs) s; binds = b }; is = v .1 };
-          second-has = record { placed = record { good = g .second .inRange; expressions = g .second-expression; stands = stands-first s₂ (conditionWords cs) r; binds = b }; is = w .1 };
-        },
-        stands-second s₂ (conditionWords cs) r,
-      )

@@ -1,14 +1,12 @@
 -- A value's words, by where it is.
-use mathlib.Core.Path.{_≡_, refl, sym, ap, _∙_}
+use mathlib.Core.Path.{_≡_, refl}
 use mathlib.Core.List.{List, [], _∷_}
 use native.Mathlib.Omega.{arith}
 use lib.IntN.{ℤ, pos}
 use lib.ListN.{length, length-take, length-drop}
-use Rattle.minuska.specs.Term.{Term, single}
-use Rattle.minuska.specs.Word.{encode}
 use types.Run.{OneOf, miss}
 use denote.Enum.Declared.{tagOf}
-use Rattle.value.specs.Value.{valueWords, partWords, ownWords, Within, sizeOf, Ordered, IsValue}
+use Rattle.value.specs.Value.{valueWords, partWords, ownWords, Within, sizeOf, Ordered}
 use Rattle.value.specs.declared.Value.{Value}
 use Rattle.value.specs.declared.Value.the-variants.{Table, Configuration, Computed}
 use Rattle.value.proofs.Value.{the-type}
@@ -38,7 +36,3 @@ module _ (table config : List ℤ) where
   within-ordered (Table from to) w = w .0
   within-ordered (Configuration from to) w = w .0
   within-ordered (Computed t d) w = tt
-
-  -- a value has as many words as its term
-  pub size-term : (v : Value) (t : Term) → IsValue table config v t → sizeOf v ≡ length (encode (single t))
-  size-term v t i = sym (size-is v (i .within)) ∙ ap length (i .words)

@@ -2,8 +2,7 @@
 //!
 //! A child process runs one call in a thread whose stack has so many KiB; a stack that is too small
 //! ends the child. The smallest size that passes is printed, and what of it a thread needs that
-//! calls nothing. The expression is the deepest that a table can hold: 511 calls of one argument
-//! nested.
+//! calls nothing. The expression is the deepest that a table can hold: 512 calls nested.
 
 use agree::words::{RuleWords, Words, symbol, table, truth, variable};
 use hethalip::{Replay, Run, Step};
@@ -21,21 +20,16 @@ const ROUTINES: [&str; 7] = [
     "replay",
 ];
 
-/// 511 calls of `bool.neg` above a variable.
-fn nested() -> Words {
-    [[4, 2].repeat(511), variable(0)].concat()
+/// So many calls: `bool.neg` of `bool.neg` and so on, of `bool.true()`.
+fn nested(calls: usize) -> Words {
+    [[4, 2].repeat(calls - 1), vec![4, 0]].concat()
 }
 
 /// One rule, the deepest expression on its right and on both sides of its condition.
 fn rules() -> Words {
     let count = |t| symbol(1, &[t]);
-    let rule = RuleWords::new(7, count(variable(0)), symbol(1, &[nested_leaf()]));
-    table(&[rule.when(nested(), nested())])
-}
-
-/// A right has 512 nodes at most, its root among them.
-fn nested_leaf() -> Words {
-    [[4, 2].repeat(510), variable(0)].concat()
+    let rule = RuleWords::new(7, count(variable(0)), count(nested(511)));
+    table(&[rule.when(nested(512), nested(512))])
 }
 
 fn perform(routine: &str) {

@@ -22,7 +22,7 @@ mod proved {
     fn refusal(refusal: hethalip::Refusal) -> Refusal {
         match refusal {
             hethalip::Refusal::BadTable => Refusal::BadTable,
-            hethalip::Refusal::BadInitial => Refusal::BadInitial,
+            hethalip::Refusal::BadConfiguration => Refusal::BadConfiguration,
             hethalip::Refusal::TooLong => Refusal::TooLong,
             hethalip::Refusal::BadLimit => Refusal::BadLimit,
             hethalip::Refusal::ShortBuffer => Refusal::ShortBuffer,

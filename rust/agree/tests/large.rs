@@ -214,7 +214,10 @@ fn chains_and_bushes_are_checked() {
     with_small_stack(|| {
         for (nodes, answer) in [
             (MOST, Check::Good),
-            (MOST + 1, Check::Refused(interpreter::Refusal::BadInitial)),
+            (
+                MOST + 1,
+                Check::Refused(interpreter::Refusal::BadConfiguration),
+            ),
         ] {
             for configuration in [chain(nodes, 1), bush(nodes)] {
                 let call = Call::CheckConfiguration { configuration };

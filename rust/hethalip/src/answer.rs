@@ -9,7 +9,7 @@ pub enum Refusal {
     /// 1: the table is malformed.
     BadTable = 1,
     /// 2: the configuration is malformed, or empty, or has more than 32,768 nodes.
-    BadInitial = 2,
+    BadConfiguration = 2,
     /// 3: the log has more than 4,096 actions, or the budget is above 1,000,000.
     TooLong = 3,
     /// 4: the limit is 0, or above 32,768, or below the configuration's node count.
@@ -104,7 +104,7 @@ impl Refusal {
     fn from_number(number: u8) -> Option<Refusal> {
         match number {
             1 => Some(Refusal::BadTable),
-            2 => Some(Refusal::BadInitial),
+            2 => Some(Refusal::BadConfiguration),
             3 => Some(Refusal::TooLong),
             4 => Some(Refusal::BadLimit),
             5 => Some(Refusal::ShortBuffer),
@@ -215,7 +215,7 @@ pub(crate) mod unpack {
         #[test]
         fn each_kind_unpacks() {
             assert_eq!(check(0), Some(Check::Good));
-            assert_eq!(check(2), Some(Check::Refused(Refusal::BadInitial)));
+            assert_eq!(check(2), Some(Check::Refused(Refusal::BadConfiguration)));
             assert_eq!(step(16), Some(Step::Stuck));
             assert_eq!(
                 step(17 | 255 << 8 | 65_535 << 16 | 32_768 << 32),

@@ -10,7 +10,7 @@ impl Display for Refusal {
             Refusal::BadTable => {
                 "the table is malformed; compare its words with the rules for tables"
             }
-            Refusal::BadInitial => {
+            Refusal::BadConfiguration => {
                 "the configuration is malformed, empty or above 32,768 nodes; give one whole term without variables and calls"
             }
             Refusal::TooLong => {
@@ -106,7 +106,7 @@ mod tests {
 
     const REFUSALS: [Refusal; 5] = [
         Refusal::BadTable,
-        Refusal::BadInitial,
+        Refusal::BadConfiguration,
         Refusal::TooLong,
         Refusal::BadLimit,
         Refusal::ShortBuffer,

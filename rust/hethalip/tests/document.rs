@@ -36,7 +36,7 @@ fn checks() {
     assert_eq!(check_configuration(&SPIN_2), Check::Good);
     assert_eq!(
         check_configuration(&[]),
-        Check::Refused(Refusal::BadInitial)
+        Check::Refused(Refusal::BadConfiguration)
     );
 }
 

@@ -7,7 +7,7 @@ pub enum Refusal {
     /// 1, bad table.
     BadTable = 1,
     /// 2, bad opening: the initial configuration is malformed.
-    BadInitial = 2,
+    BadConfiguration = 2,
     /// 3, too long: the log or the budget.
     TooLong = 3,
     /// 4, bad ceiling: the limit.

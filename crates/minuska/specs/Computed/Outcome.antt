@@ -1,8 +1,8 @@
 -- What each routine answers, for all words: lower numbers go first, then the computed answer. The names that contracts cite are shut.
 -- `proofs/OutcomeLaw` and `RefusalLaw`: they meet the claims.
-use mathlib.Core.Bool.{Bool, true, false, _||_}
+use mathlib.Core.Bool.{Bool, _||_, cond}
 use mathlib.Core.Option.{Option, none, some}
-use mathlib.Core.List.{List, []}
+use mathlib.Core.List.{List, [], _∷_}
 use Prim.Native.Nat.{ℕ, _*_}
 use lib.IntN.{ℤ}
 use lib.Dec.{eqb, ltb}
@@ -11,29 +11,37 @@ use Rattle.minuska.specs.Basics.{_>>=_}
 use Rattle.minuska.specs.Term.{Term, single, nodeCount}
 use Rattle.minuska.specs.Subterm.{subtermAt}
 use Rattle.minuska.specs.Word.{encode}
-use Rattle.minuska.specs.Rule.{Table, maxNodes}
-use Rattle.minuska.specs.Slice.{outLimit, workWords}
+use Rattle.minuska.specs.Rule.{Table, maxNodes, maxSteps, maxActions}
+use Rattle.minuska.specs.Slice.{outLimit}
+use Rattle.minuska.specs.Claim.{workWords}
 use Rattle.minuska.specs.Answer.{Refusal, Check, Good, Refused, BadTable, BadConfiguration, TooLong, BadLimit, ShortBuffer, Outcome, refused, gives, StepResult, RunResult, ReplayResult}
 use Rattle.minuska.specs.Computed.Read.{readTable, readConfiguration}
 use Rattle.minuska.specs.Computed.Step.{stepByRule, step}
 use Rattle.minuska.specs.Computed.Run.{run}
 use Rattle.minuska.specs.Computed.Replay.{replay}
 
--- a value that must be there; a test that must not pass
+-- a value that must be there
 abbrev pub need : {A B : Type 0} → Refusal → Option A → (A → Outcome B) → Outcome B
 need r none go = refused r
 need r (some a) go = go a
 
-abbrev pub unless : {B : Type 0} → Refusal → Bool → Outcome B → Outcome B
-unless r true go = refused r
-unless r false go = go
-
--- 1 and 2: the words are a table and a configuration. Then 3, 4 and 5
+-- 1 and 2: the words are a table and a configuration
 abbrev pub onWords : {A : Type 0} → List ℤ → List ℤ → (Table → Term → Outcome A) → Outcome A
 onWords table config go = need BadTable (readTable table) λ t. need BadConfiguration (readConfiguration config) λ g. go t g
 
-abbrev pub tested : {A : Type 0} → Bool → Bool → Bool → A → Outcome A
-tested long limit short x = unless TooLong long (unless BadLimit limit (unless ShortBuffer short (gives x)))
+-- tests that must not pass, in order
+pub record Test : Type 0 where
+  pub refusal : Refusal
+  pub given : Bool
+
+abbrev pub tested : {A : Type 0} → List Test → A → Outcome A
+tested [] x = gives x
+tested (t ∷ ts) x = cond (t .given) (refused (t .refusal)) (tested ts x)
+
+-- 3, 4 and 5
+abbrev pub sizeTests : Bool → Bool → Bool → List Test
+sizeTests long limit short =
+    record { refusal = TooLong; given = long } ∷ record { refusal = BadLimit; given = limit } ∷ record { refusal = ShortBuffer; given = short } ∷ []
 
 -- the two checks: good, or 1, or 2
 abbrev pub checked : {A : Type 0} → Refusal → Option A → Check
@@ -76,7 +84,7 @@ runShort n out spare = ltb out (2 * n) || ltb spare (2 * n)
 
 unfoldable pub runOutcome : List ℤ → List ℤ → ℕ → ℕ → ℕ → ℕ → Outcome RunResult
 runOutcome table config budget n out spare =
-    onWords table config λ t g. tested (ltb 1000000 budget) (limitRefused n g) (runShort n out spare) (run t n budget g)
+    onWords table config λ t g. tested (sizeTests (ltb maxSteps budget) (limitRefused n g) (runShort n out spare)) (run t n budget g)
 
 -- the replay, by the words, the log, N, and the lengths of out, choices and work
 abbrev pub replayShort : ℕ → List ℕ → ℕ → ℕ → ℕ → Bool
@@ -84,4 +92,4 @@ replayShort n log out choices work = ltb out (2 * n) || ltb choices (length log)
 
 unfoldable pub replayOutcome : List ℤ → List ℤ → List ℕ → ℕ → ℕ → ℕ → ℕ → Outcome (ReplayResult Term)
 replayOutcome table config log n out choices work =
-    onWords table config λ t g. tested (ltb 4096 (length log)) (limitRefused n g) (replayShort n log out choices work) (replay t n log g)
+    onWords table config λ t g. tested (sizeTests (ltb maxActions (length log)) (limitRefused n g) (replayShort n log out choices work)) (replay t n log g)

@@ -105,7 +105,7 @@ fn read_table(words: &[i64]) -> Result<Table, Refusal> {
 fn read_configuration(words: &[i64]) -> Result<Term, Refusal> {
     match Term::read(words, limits::CONFIGURATION_NODES) {
         Some((term, [])) if term.is_ground() => Ok(term),
-        _ => Err(Refusal::BadInitial),
+        _ => Err(Refusal::BadConfiguration),
     }
 }
 

@@ -20,7 +20,7 @@ pub fn check_configuration(configuration: &[i64]) -> Check {
     if is_configuration(configuration) {
         Check::Good
     } else {
-        Check::Refused(Refusal::BadInitial)
+        Check::Refused(Refusal::BadConfiguration)
     }
 }
 
@@ -116,7 +116,7 @@ fn check_both<'a>(
     if is_configuration(configuration) {
         Ok((rules, nodes(configuration)))
     } else {
-        Err(Refusal::BadInitial)
+        Err(Refusal::BadConfiguration)
     }
 }
 

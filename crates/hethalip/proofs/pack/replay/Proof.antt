@@ -1,5 +1,6 @@
 -- `pack::replay` meets its contract, case by case. Assumes nothing.
 use borrow.Author.Needs.{needs}
+use Rattle.minuska.specs.Slice.{replaySays}
 use Rattle.hethalip.specs.Pack.{packReplay}
 use Rattle.hethalip.proofs.pack.replay.Statement.{statement}
 use Rattle.hethalip.proofs.pack.replay.Tie as tie
@@ -17,15 +18,15 @@ number-requires : tie.Need-number-requires
 number-requires c κs = search needs
 
 returns : tie.Need-returns
-unfolding packReplay
+unfolding packReplay replaySays
 returns c = rw (c .enum-told .given .1)
 
 returns-2 : tie.Need-returns-2
-unfolding packReplay
+unfolding packReplay replaySays
 returns-2 c = rw (c .enum-told2 .given .1)
 
 returns-3 : tie.Need-returns-3
-unfolding packReplay
+unfolding packReplay replaySays
 returns-3 c = rw (c .before .before .answer .given .1) (c .number .ensures)
 
 pub replay-spec : {M : Type 1} → statement M

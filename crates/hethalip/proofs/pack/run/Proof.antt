@@ -4,6 +4,7 @@ use lib.Dec.{lit<}
 use borrow.Author.Needs.{needs}
 use Rattle.minuska.specs.Answer.{number}
 use Rattle.hethalip.specs.Range.{RunInRange}
+use Rattle.minuska.specs.Slice.{runSays}
 use Rattle.hethalip.specs.Pack.{packRun}
 use Rattle.hethalip.proofs.pack.run.Statement.{statement}
 use Rattle.hethalip.proofs.pack.run.Tie as tie
@@ -33,19 +34,19 @@ number-requires : tie.Need-number-requires
 number-requires c κs = search needs
 
 returns : tie.Need-returns
-unfolding packRun
+unfolding packRun runSays
 returns c = rw (c .before .before .answer .given .1) (c .counted .ensures)
 
 returns-2 : tie.Need-returns-2
-unfolding packRun
+unfolding packRun runSays
 returns-2 c = rw (c .before .before .answer2 .given .1) (c .counted2 .ensures)
 
 returns-3 : tie.Need-returns-3
-unfolding packRun number
+unfolding packRun number runSays
 returns-3 c = rw (c .before .before .answer3 .given .1) (c .counted3 .ensures)
 
 returns-4 : tie.Need-returns-4
-unfolding packRun
+unfolding packRun runSays
 returns-4 c = rw (c .before .before .answer4 .given .1) (c .number .ensures)
 
 pub run-spec : {M : Type 1} → statement M

@@ -2,6 +2,7 @@
 use mathlib.Core.Path.{subst}
 use borrow.Author.Needs.{needs}
 use Rattle.hethalip.specs.Range.{StepInRange}
+use Rattle.minuska.specs.Slice.{stepSays}
 use Rattle.hethalip.specs.Pack.{packStep}
 use Rattle.hethalip.proofs.pack.step.Statement.{statement}
 use Rattle.hethalip.proofs.pack.step.Tie as tie
@@ -23,15 +24,15 @@ number-requires : tie.Need-number-requires
 number-requires c κs = search needs
 
 returns : tie.Need-returns
-unfolding packStep
+unfolding packStep stepSays
 returns c = rw (c .before .before .answer .given .1) (c .stepped .ensures)
 
 returns-2 : tie.Need-returns-2
-unfolding packStep
+unfolding packStep stepSays
 returns-2 c = rw (c .enum-told .given .1)
 
 returns-3 : tie.Need-returns-3
-unfolding packStep
+unfolding packStep stepSays
 returns-3 c = rw (c .before .before .answer2 .given .1) (c .number .ensures)
 
 pub step-spec : {M : Type 1} → statement M

@@ -1,15 +1,12 @@
 -- `search::try_at` meets its contract.
-use mathlib.Core.Path.{_≡_, sym, ap, _∙_, subst}
+use mathlib.Core.Path.{_≡_, refl, sym, subst}
 use mathlib.Core.List.{List, _++_}
-use Prim.Native.Nat.{ℕ, _≤_}
+use Prim.Native.Nat.{ℕ}
 use lib.IntN.{ℤ}
-use lib.ListN.{length, take, drop}
+use lib.ListN.{take, drop}
 use lib.Seq.{length-take-le}
-use Rattle.minuska.specs.Answer.{Outcome, StepResult}
-use Rattle.minuska.specs.Slice.{stepAnswer, stepOut}
 use Rattle.minuska.specs.Contract.{StepByRuleContract}
 use Rattle.minuska.specs.Computed.Place.{Accepted}
-use Rattle.minuska.specs.Computed.Outcome.{ruleOutcome}
 use Rattle.minuska.specs.declared.StepAnswer.{StepAnswer}
 use Rattle.replay.specs.Turns.{TryContract}
 use Rattle.replay.proofs.SeekLaw.{ordered-is}
@@ -35,13 +32,8 @@ apply-rule-requires c κs = let s = c .before .before .before in (s .pre .1 .0, 
 same-length : tie.Need-same-length
 same-length c = search needs
 
-tried : (ws cs cs′ : List ℤ) (n n′ room : ℕ) (o o₁ : List ℤ) (r : StepAnswer) → cs′ ≡ cs → n′ ≡ n → room ≤ length o → StepByRuleContract ws cs′ n′ (take room o) o₁ r → TryContract ws cs n room o (o₁ ++ drop room o) r
-tried ws cs cs′ n n′ room o o₁ r ec en h k =
-    let e : k .outcome ≡ ruleOutcome ws cs n room = k .is ∙ rw (ec, en, length-take-le room o h) in
-    record {
-      answer = k .answer ∙ ap stepAnswer e;
-      leaves = ap (λ (l : List ℤ). l ++ drop room o) (k .leaves ∙ ap (λ (x : Outcome StepResult). stepOut x (take room o)) e);
-    }
+tried : (ws cs cs′ : List ℤ) (n n′ room : ℕ) (o o₁ : List ℤ) (r : StepAnswer) → cs′ ≡ cs → n′ ≡ n → StepByRuleContract ws cs′ n′ (take room o) o₁ r → TryContract ws cs n room o (o₁ ++ drop room o) r
+tried ws cs cs′ n n′ room o o₁ r ec en k = record { front = o₁; steps = rw (ec, en) at k; leaves = refl }
 
 returns : tie.Need-returns
 returns c =
@@ -50,7 +42,7 @@ returns c =
     let a = s .args in
     tried (a .table .now) _ _ _ _ (a .room) (a .out .now) _ _ (f .configuration .ensures)
     (ordered-is (a .table .now) (a .index .now) (s .pre .1 .0) (a .position) (f .before .ordered .result) (s .pre .0 .2) (f .before .ordered .ensures))
-    (s .pre .0 .1) (c .before .apply-rule .ensures)
+    (c .before .apply-rule .ensures)
 
 pub try-at-spec : {M : Type 1} → statement M
 try-at-spec =

@@ -10,15 +10,10 @@ use mir.Syntax.{w64}
 use mir.Val.{SFits, toZ, ofZ}
 use mir.ValLaws.{toZ-ofZ}
 use borrow.Author.Needs.{needs}
-use Rattle.term.proofs.SignedLaw.{same-bits}
-use Rattle.step.proofs.MatchingLaw.{word, room, ground-at, last-ends, turned-same, turned-other}
+use Rattle.step.proofs.MatchingLaw.{word, word-same, room, ground-at, last-ends, turned-same, turned-other}
 use Rattle.step.proofs.MatchingVariable.{number-fits, part-within, turned-bind, turned-again, turned-differs, turned-long}
 use Rattle.step.proofs.matching.turn_at.Statement.{statement}
 use Rattle.step.proofs.matching.turn_at.Tie as tie
-
--- two words that were read, with the same bits
-word-same : {a b x y : ℤ} → SFits w64 a → SFits w64 b → a ≡ x → b ≡ y → ofZ w64 a ≡ ofZ w64 b → x ≡ y
-word-same {a} {b} f g p q e = sym p ∙ (same-bits a b f g e ∙ q)
 
 -- at a plain node: its tag is not a variable's
 plain : (c : tie.Then1) → word (c .before .before .before .args .table .now) (c .before .before .before .args .i) ≡ pos 3 → ⊥

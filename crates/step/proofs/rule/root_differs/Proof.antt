@@ -1,13 +1,15 @@
 -- `root_differs` meets its contract: the left stands at its place in the table, and the configuration has a root.
-use mathlib.Core.Path.{_≡_, sym, _∙_, ap}
+use mathlib.Core.Path.{_≡_, refl, sym, _∙_, ap}
 use Prim.Native.Nat.{ℕ, _+_, _*_, _≤_}
 use native.Mathlib.Omega.{arith}
+use lib.Dec.{lit<}
 use lib.IntN.{pos}
 use lib.ListN.{length, getD}
 use mir.Syntax.{w64}
-use mir.Val.{ofZ}
-use Rattle.step.proofs.MatchingLaw.{word}
-use Rattle.step.proofs.RuleLaw.{named-within, root-there, root-open, root-within, root-differs}
+use mir.Val.{SFits, ofZ}
+use borrow.Author.Needs.{needs}
+use Rattle.step.proofs.MatchingLaw.{word, word-same}
+use Rattle.step.proofs.RuleLaw.{named-within, root-there, root-within, root-differs, root-variable, root-same}
 use Rattle.step.proofs.rule.root_differs.Statement.{statement}
 use Rattle.step.proofs.rule.root_differs.Tie as tie
 
@@ -39,7 +41,13 @@ word-requires : tie.Need-word-requires
 word-requires c κs = omega (arith, within c)
 
 returns : tie.Need-returns
-returns c = root-open
+returns c =
+    let p = c .before .before in
+    let s = p .before in
+    let t = c .before .word .result in
+    let f : SFits w64 t = search needs in
+    root-variable (s .args .table .now) (s .args .index .now) (s .args .rule) (s .pre .0) (s .args .configuration .now)
+    (sym (there p 2) ∙ word-same f (record { sfits = lit< tt }) (c .before .word .ensures) refl (c .if1 .taken))
 
 word-requires-2 : tie.Need-word-requires-2
 word-requires-2 c κs = omega (arith, root-there (c .before .before .before .pre .1))
@@ -71,7 +79,22 @@ returns-3 c =
     (λ x y. c .if3 .taken (ap (ofZ w64) (w .word3 .ensures ∙ (ap (λ (k : ℕ). word (s .args .table .now) (k + 2 + 1)) (p .place .ensures) ∙ (y ∙ sym (c .before .word4 .ensures))))))
 
 returns-4 : tie.Need-returns-4
-returns-4 c = root-open
+returns-4 c =
+    let w = c .before .before in
+    let e = w .before .before .before in
+    let p = e .before .before in
+    let s = p .before in
+    let t = e .before .word .result in
+    let d = w .word3 .result in
+    let x = w .before .before .word2 .result in
+    let y = c .before .word4 .result in
+    let ft : SFits w64 t = search needs in
+    let fd : SFits w64 d = search needs in
+    let fx : SFits w64 x = search needs in
+    let fy : SFits w64 y = search needs in
+    root-same (s .args .table .now) (s .args .index .now) (s .args .rule) (s .pre .0) (s .args .configuration .now)
+    (sym (there p 2) ∙ word-same ft fx (e .before .word .ensures) (w .before .before .word2 .ensures) (w .before .if2 .left))
+    (sym (ap (λ (k : ℕ). word (s .args .table .now) (k + 2 + 1)) (p .place .ensures)) ∙ word-same fd fy (w .word3 .ensures) (c .before .word4 .ensures) (c .if3 .left))
 
 pub root-differs-spec : {M : Type 1} → statement M
 root-differs-spec =
