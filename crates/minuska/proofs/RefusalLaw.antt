@@ -18,6 +18,7 @@ use Rattle.minuska.specs.Computed.Read.{readTable, readConfiguration}
 use Rattle.minuska.specs.Computed.Step.{stepByRule, step}
 use Rattle.minuska.specs.Computed.Run.{run}
 use Rattle.minuska.specs.Computed.Replay.{replay}
+use Rattle.minuska.specs.Computed.Place.{Decides}
 use Rattle.minuska.specs.Slice.{outLimit, workWords}
 use Rattle.minuska.specs.Computed.Outcome.{need, onWords, tested, ruleOutcome, stepOutcome, limitRefused, runShort, runOutcome, replayShort, replayOutcome}
 use Rattle.minuska.proofs.Tests.{exactly}
@@ -26,36 +27,33 @@ use Rattle.minuska.proofs.ConfigurationLaw.{read-configuration-iff}
 use Rattle.minuska.proofs.OutcomeLaw.{on-words}
 
 -- ---- a test that decides a sentence
-abbrev Decides : Bool → Type 0 → Type 0
-Decides b P = (b ≡ true → P) × (b ≡ false → P → ⊥)
-
 decided : (b : Bool) (P : Type 0) → Decides b P → P → b ≡ true
 decided true P d p = refl
-decided false P d p = absurd (d .1 refl p)
+decided false P d p = absurd (d .no refl p)
 
 undecided : (b : Bool) (P : Type 0) → Decides b P → (P → ⊥) → b ≡ false
-undecided true P d f = absurd (f (d .0 refl))
+undecided true P d f = absurd (f (d .yes refl))
 undecided false P d f = refl
 
 never : Decides false ⊥
-never = ((λ e. true≢false (sym e)), λ e f. f)
+never = record { yes = λ e. true≢false (sym e); no = λ e f. f }
 
 below : (a b : ℕ) → Decides (ltb a b) (a < b)
-below a b = (ltb-true a b, λ e h. let k = ltb-false a b e in omega arith)
+below a b = record { yes = ltb-true a b; no = λ e h. let k = ltb-false a b e in omega arith }
 
 equal : (a b : ℕ) → Decides (eqb a b) (a ≡ b)
-equal a b = (eqb-true a b, eqb-false a b)
+equal a b = record { yes = eqb-true a b; no = eqb-false a b }
 
 either : (a b : Bool) (P Q : Type 0) → Decides a P → Decides b Q → Decides (a || b) (P ⊎ Q)
-either true b P Q d e = ((λ z. inl (d .0 refl)), λ z. absurd (true≢false z))
-either false b P Q d e = ((λ z. inr (e .0 z)), pick)
+either true b P Q d e = record { yes = λ z. inl (d .yes refl); no = λ z. absurd (true≢false z) }
+either false b P Q d e = record { yes = λ z. inr (e .yes z); no = pick }
   where
     pick : b ≡ false → P ⊎ Q → ⊥
-    pick z (inl p) = d .1 refl p
-    pick z (inr q) = e .1 z q
+    pick z (inl p) = d .no refl p
+    pick z (inr q) = e .no z q
 
 regroup : (b : Bool) (P Q R : Type 0) → Decides b ((P ⊎ Q) ⊎ R) → Decides b (P ⊎ Q ⊎ R)
-regroup b P Q R d = ((λ e. there (d .0 e)), λ e h. d .1 e (back h))
+regroup b P Q R d = record { yes = λ e. there (d .yes e); no = λ e h. d .no e (back h) }
   where
     there : (P ⊎ Q) ⊎ R → P ⊎ Q ⊎ R
     there (inl (inl p)) = inl p
@@ -73,9 +71,6 @@ module _ {A : Type 0} (ws cs : List ℤ) (l : Bool) (b : Term → Bool) (s : Boo
   abbrev go : Table → Term → Outcome A
   go t g = tested l (b g) s (x t g)
 
-  abbrev Words : Table → Term → Type 0
-  Words t g = IsTable ws t × IsConfiguration cs g
-
   abbrev Why : Outcome A → Type 0
   Why (refused BadTable) = (t : Table) → IsTable ws t → ⊥
   Why (refused BadConfiguration) = ((t : Table) × IsTable ws t) × ((g : Term) → IsConfiguration cs g → ⊥)
@@ -90,10 +85,10 @@ module _ {A : Type 0} (ws cs : List ℤ) (l : Bool) (b : Term → Bool) (s : Boo
   why = table (readTable ws) refl
     where
       tests : (t : Table) (g : Term) → IsTable ws t → IsConfiguration cs g → (l' b' s' : Bool) → l ≡ l' → b g ≡ b' → s ≡ s' → Why (tested l' b' s' (x t g))
-      tests t g p q true b' s' e f h = (t, g, p, q, dl .0 e)
-      tests t g p q false true s' e f h = (t, g, p, q, dl .1 e, db g .0 f)
-      tests t g p q false false true e f h = (t, g, p, q, dl .1 e, db g .1 f, ds .0 h)
-      tests t g p q false false false e f h = (t, g, p, q, dl .1 e, db g .1 f, ds .1 h, refl)
+      tests t g p q true b' s' e f h = (t, g, p, q, dl .yes e)
+      tests t g p q false true s' e f h = (t, g, p, q, dl .no e, db g .yes f)
+      tests t g p q false false true e f h = (t, g, p, q, dl .no e, db g .no f, ds .yes h)
+      tests t g p q false false false e f h = (t, g, p, q, dl .no e, db g .no f, ds .no h, refl)
 
       configuration : (t : Table) → IsTable ws t → (o : Option Term) → readConfiguration cs ≡ o → Why (need BadConfiguration o λ g. go t g)
       configuration t p none e = ((t, p), λ g q. absurd (let f : Path (Option Term) none (some g) = sym e ∙ read-configuration-iff cs g .1 q in let z : _≡_ {A = ℕ} 0 1 = cc in let n : ⊥ = omega arith in n))

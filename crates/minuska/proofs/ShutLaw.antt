@@ -1,4 +1,4 @@
--- The shut names, opened: an equation for each, so that a proof about code needs no `unfolding`.
+-- The shut names, opened: equations for what proofs about code cite, so that they need no `unfolding`.
 use mathlib.Core.Path.{_≡_, refl}
 use mathlib.Core.List.{List}
 use Prim.Native.Nat.{ℕ, zero, suc, _*_}
@@ -8,7 +8,7 @@ use lib.ListN.{length}
 use Rattle.minuska.specs.Term.{Term, single, nodeCount}
 use Rattle.minuska.specs.Word.{encode}
 use Rattle.minuska.specs.Rule.{Table}
-use Rattle.minuska.specs.Answer.{Refusal, refused, gives, stepped, stuck, tooLarge, RunResult, ReplayResult, reproduced, exceeded, notReproduced}
+use Rattle.minuska.specs.Answer.{Refusal, refused, gives, stepped, RunResult, ReplayResult, reproduced, exceeded, notReproduced}
 use Rattle.minuska.specs.Computed.Step.{successorBy, earliest, next, order, answered, withNumber, stepByRule, step}
 use Rattle.minuska.specs.Computed.Run.{lastTurn, turn, run}
 use Rattle.minuska.specs.Computed.Replay.{search, replay}
@@ -56,21 +56,9 @@ module _ (ws cs : List ℤ) where
 
 -- ---- the slices afterwards
 module _ (old : List ℤ) where
-  pub step-out-refused : (r : Refusal) → stepOut (refused r) old ≡ old
-  unfolding stepOut
-  step-out-refused r = refl
-
   pub step-out-stepped : (n a : ℕ) (h : Term) → stepOut (gives (stepped n a h)) old ≡ write (encode (single h)) old
   unfolding stepOut
   step-out-stepped n a h = refl
-
-  pub step-out-stuck : stepOut (gives stuck) old ≡ old
-  unfolding stepOut
-  step-out-stuck = refl
-
-  pub step-out-large : stepOut (gives tooLarge) old ≡ old
-  unfolding stepOut
-  step-out-large = refl
 
   module _ (n : ℕ) where
     pub run-out-refused : (r : Refusal) → runOut n (refused r) old ≡ old
