@@ -1,20 +1,23 @@
 -- Document 01's cases P8 to P12 as the bytes that are read and written.
 use mathlib.Core.Path.{_≡_, refl, ap, _∙_}
+use mathlib.Core.Bool.{Bool, true, false}
 use mathlib.Core.Option.{some}
 use mathlib.Core.List.{List, [], _∷_}
-use Prim.Native.Nat.{ℕ, _<_}
-use native.Mathlib.Omega.{arith}
-use lib.Dec.{T, eqb→eq}
-use lib.IntN.{ℤ}
-use Rattle.minuska.specs.Term.{Term, single}
-use Rattle.minuska.specs.Word.{encode}
-use Rattle.minuska.specs.declared.Refusal.the-variants.{OverLimit}
-use Rattle.minuska.specs.Answer.{number, Outcome, refused, gives, ReplayResult, reproduced, exceeded, notReproduced}
-use Rattle.minuska.specs.Slice.{replayAnswer, replaySays}
-use Rattle.minuska.specs.Basics.{sameWhole}
+use Prim.Native.Nat.{ℕ}
+use lib.Dec.{T}
+use Rattle.minuska.specs.Basics.{every, Every}
+use Rattle.minuska.specs.Term.{Term}
+use Rattle.minuska.specs.Rule.{Table, okTable}
+use Rattle.minuska.specs.Answer.{Outcome, refused, gives, ReplayResult, reproduced, exceeded, notReproduced}
+use Rattle.minuska.specs.Claim.{ReplayClaim}
+use Rattle.minuska.specs.Computed.Read.{readTable, readConfiguration}
+use Rattle.minuska.specs.Computed.Replay.{replay}
 use Rattle.minuska.specs.Computed.Outcome.{replayOutcome}
-use Rattle.minuska.specs.Marked.{words, sample, Printed, lines, noPath, refusal, replays, sameWords, printed, passes}
-use Rattle.minuska.proofs.Tests.{and-left, and-right, same-whole}
+use Rattle.minuska.specs.Marked.{words, sample, initial, Printed, lines, noPath, refusal, Case, evaluates, matches, steps, replays, cases, Prints, Means}
+use Rattle.minuska.proofs.Tests.{and-left, and-right}
+use Rattle.minuska.proofs.ReplayLaw.{replay-only}
+use Rattle.minuska.proofs.OutcomeLaw.{replay-outcome}
+use Rattle.minuska.proofs.MarkedLaw.{all-mean}
 use Rattle.cli.specs.Decimal.{ascii, digits, decimal, wholeText}
 use Rattle.cli.specs.Input.{line, Request, inputText}
 use Rattle.cli.specs.Output.{answered, answerText, reproducedText, notReproducedText}
@@ -28,56 +31,63 @@ printedText (lines choices ws) = reproducedText choices ws
 printedText noPath = notReproducedText
 printedText (refusal n) = refusalText n
 
--- a refusal has a number
-abbrev pub Numbered : Printed → Type 0
-Numbered (lines choices ws) = Unit {0}
-Numbered noPath = Unit {0}
-Numbered (refusal n) = 0 < n
-
-same-words : (xs ys : List ℤ) → T (sameWords xs ys) → xs ≡ ys
-same-words [] [] t = refl
-same-words [] (y ∷ ys) t = absurd t
-same-words (x ∷ xs) [] t = absurd t
-same-words (x ∷ xs) (y ∷ ys) t =
-    let p : x ≡ y = same-whole x y (and-left (sameWhole x y) (sameWords xs ys) t) in
-    let q : xs ≡ ys = same-words xs ys (and-right (sameWhole x y) (sameWords xs ys) t) in
-    cc
-
-same-numbers : (ms ns : List ℕ) → words ms ≡ words ns → ms ≡ ns
-same-numbers [] [] e = refl
-same-numbers [] (n ∷ ns) e = let z : _≡_ {A = ℕ} 0 1 = cc in absurd (omega arith)
-same-numbers (m ∷ ms) [] e = let z : _≡_ {A = ℕ} 0 1 = cc in absurd (omega arith)
-same-numbers (m ∷ ms) (n ∷ ns) e =
-    let p : m ≡ n = cc in
-    let q : words ms ≡ words ns = cc in
-    let r : ms ≡ ns = same-numbers ms ns q in
-    cc
-
-printed-is : (o : Outcome (ReplayResult Term)) (x : Printed) → Numbered x → T (printed o x) → answerText o ≡ printedText x
-unfolding answerText replaySays replayAnswer
-printed-is (refused r) (lines ns ws) p t = absurd t
-printed-is (refused r) noPath p t = absurd t
-printed-is (refused r) (refusal n) p t = ap refusalText (eqb→eq (number r) n t)
-printed-is (gives (reproduced ms h)) (lines ns ws) p t =
-    let a : ms ≡ ns = same-numbers ms ns (same-words (words ms) (words ns) (and-left (sameWords (words ms) (words ns)) (sameWords (encode (single h)) ws) t)) in
-    let b : encode (single h) ≡ ws = same-words (encode (single h)) ws (and-right (sameWords (words ms) (words ns)) (sameWords (encode (single h)) ws) t) in
-    ap (λ (l : List ℕ). reproducedText l (encode (single h))) a ∙ ap (reproducedText ns) b
-printed-is (gives (reproduced ms h)) noPath p t = absurd t
-printed-is (gives (reproduced ms h)) (refusal n) p t = absurd (omega (arith, eqb→eq 0 n t))
-printed-is (gives exceeded) (lines ns ws) p t = absurd t
-printed-is (gives exceeded) noPath p t = absurd t
-printed-is (gives exceeded) (refusal n) p t = ap refusalText (eqb→eq (number OverLimit) n t)
-printed-is (gives notReproduced) (lines ns ws) p t = absurd t
-printed-is (gives notReproduced) noPath p t = refl
-printed-is (gives notReproduced) (refusal n) p t = absurd (omega (arith, eqb→eq 0 n t))
-
--- ---- a case on the sample table and configuration: where it passes, its text is what the program writes
+-- ---- a case on the sample table and configuration
 abbrev pub sampled : List ℕ → ℕ → Request
-sampled log limit = record { table = sample; configuration = words (9 ∷ 1 ∷ 2 ∷ 2 ∷ []); log = log; limit = limit }
+sampled log limit = record { table = sample; configuration = initial; log = log; limit = limit }
 
-pub case-text : (log : List ℕ) (limit : ℕ) (x : Printed) → Numbered x → T (passes (replays log limit x)) → answerText (answered (some (sampled log limit))) ≡ printedText x
-unfolding passes answered
-case-text log limit x p t = printed-is (replayOutcome sample (words (9 ∷ 1 ∷ 2 ∷ 2 ∷ [])) log limit 1024 256 4096) x p t
+-- the text of the answer that meets the case's claim
+meant-text : (log : List ℕ) (limit : ℕ) (x : Printed) (table : Table) (g : Term) → T (okTable table) → Prints log limit x table g → (y : ReplayResult Term) → ReplayClaim table limit log g y → answerText (gives y) ≡ printedText x
+unfolding answerText
+meant-text log limit (lines choices ws) table g k p y c =
+    ap (λ (z : ReplayResult Term). answerText (gives z)) (replay-only table k limit log g y (reproduced choices (p .0)) c (p .2)) ∙
+    ap (reproducedText choices) (p .1 .words)
+meant-text log limit noPath table g k p y c =
+    ap (λ (z : ReplayResult Term). answerText (gives z)) (replay-only table k limit log g y notReproduced c p)
+meant-text log limit (refusal n) table g k p y c =
+    ap (λ (z : ReplayResult Term). answerText (gives z)) (replay-only table k limit log g y exceeded c (p .1)) ∙ ap refusalText (p .0)
+
+-- 1 to 5 are not given
+abbrev isAnswer : Outcome (ReplayResult Term) → Bool
+isAnswer (refused r) = false
+isAnswer (gives y) = true
+
+answer-text : (log : List ℕ) (limit : ℕ) (x : Printed) → Means (replays log limit x) → (o : Outcome (ReplayResult Term)) → replayOutcome sample initial log limit 1024 256 4096 ≡ o → T (isAnswer o) → answerText o ≡ printedText x
+answer-text log limit x m (refused r) e t = absurd t
+answer-text log limit x m (gives y) e t =
+    meant-text log limit x (m .0) (m .1) (m .2 .accepted) (m .4) y (replay-outcome sample initial log limit 1024 256 4096 .meets (m .0) (m .1) y (m .2) (m .3) e)
+
+abbrev isAnswered : Case → Bool
+isAnswered (evaluates e v) = true
+isAnswered (matches l c b) = true
+isAnswered (steps c x) = true
+isAnswered (replays log limit x) = isAnswer (replayOutcome sample initial log limit 1024 256 4096)
+
+-- What the program writes for a replay of the table is what the case says.
+abbrev pub Writes : Case → Type 0
+Writes (evaluates e v) = Unit {0}
+Writes (matches l c b) = Unit {0}
+Writes (steps c x) = Unit {0}
+Writes (replays log limit x) = answerText (answered (some (sampled log limit))) ≡ printedText x
+
+case-writes : (c : Case) → T (isAnswered c) → Means c → Writes c
+unfolding answered
+case-writes (evaluates e v) t m = tt
+case-writes (matches l c b) t m = tt
+case-writes (steps c x) t m = tt
+case-writes (replays log limit x) t m = answer-text log limit x m (replayOutcome sample initial log limit 1024 256 4096) refl t
+
+every-writes : (cs : List Case) → T (every isAnswered cs) → Every Means cs → Every Writes cs
+every-writes [] t m = tt
+every-writes (c ∷ cs) t m =
+    (case-writes c (and-left (isAnswered c) (every isAnswered cs) t) (m .0), every-writes cs (and-right (isAnswered c) (every isAnswered cs) t) (m .1))
+
+all-answered : T (every isAnswered cases)
+unfolding cases replayOutcome readTable readConfiguration replay
+all-answered = tt
+
+-- P8 TO P12 ARE WHAT THE PROGRAM WRITES; their texts, and the whole case's input, follow
+pub all-written : Every Writes cases
+all-written = every-writes cases all-answered all-mean
 
 pub whole-case : inputText (sampled (10 ∷ 20 ∷ []) 4) ≡ ascii "3,10,1,9,1,3,0,9,1,4,9,3,0,2,1,4,12,2,0,3,0,1,1,10,0,9,1,3,0,10,2,3,0,9,1,3,0,20,0,10,2,3,0,3,1,3,1\n9,1,2,2\n10,20\n4\n"
 unfolding inputText wholeText decimal digits

@@ -1,16 +1,16 @@
 -- A table's index: what its four numbers for a rule are, and what stands there.
 use mathlib.Core.Path.{_≡_, refl, sym, _∙_, ap, subst}
-use mathlib.Core.Option.{Option, none, some, Option·none-ne-some, Option·some-injective}
+use mathlib.Core.Option.{some, Option·none-ne-some, Option·some-injective}
 use mathlib.Core.List.{List, [], _∷_, _++_}
-use Prim.Native.Nat.{ℕ, zero, suc, _+_, _*_, _<_, _≤_}
+use Prim.Native.Nat.{ℕ, zero, suc, _+_, _*_, _<_}
 use native.Mathlib.Omega.{arith}
 use lib.IntN.{ℤ, pos}
-use lib.ListN.{length, take, drop, getD, getElem?, length-append}
+use lib.ListN.{length, take, getD, getElem?}
 use lib.Seq.{getD-take}
 use Rattle.minuska.specs.Term.{single}
 use Rattle.minuska.specs.Word.{encode}
 use Rattle.minuska.specs.Rule.{Rule, Table, conditionWords, ruleWords, rulesWords, IsTable}
-use Rattle.minuska.specs.Computed.Place.{Stands, rulePlaces, placesFrom, places, Indexed}
+use Rattle.minuska.specs.Computed.Place.{Stands, placesFrom, places, Indexed}
 use Rattle.minuska.proofs.PlaceLaw.{stands-whole, stands-first, stands-second}
 use Rattle.minuska.proofs.TableLaw.{read-table-iff}
 use Rattle.minuska.proofs.OrderLaw.{named-below}
@@ -108,9 +108,6 @@ module _ (ws : List ℤ) (index : List ℕ) (n : ℕ) (r : Rule) (x : RulePlaced
 
   abbrev head : List ℤ
   head = pos (r .action) ∷ pos (length (r .conditions)) ∷ []
-
-  pub head-stands : Stands ws (x .start) head
-  head-stands = stands-first head (A ++ (B ++ C)) (x .stands)
 
   pub left-stands : Stands ws (x .start + 2) A
   left-stands = stands-first A (B ++ C) (stands-second head (A ++ (B ++ C)) (x .stands))

@@ -1,7 +1,6 @@
 -- A right in preorder, item by item: a plain node's two words, a variable's term, or a call's value; and what is left of the right behind it.
-use mathlib.Core.Path.{_≡_, refl, sym, _∙_, ap, subst}
-use mathlib.Core.Bool.{_&&_}
-use mathlib.Core.Option.{Option, none, some, Option·some-injective}
+use mathlib.Core.Path.{_≡_, sym, _∙_, ap, subst}
+use mathlib.Core.Option.{Option, some, Option·some-injective}
 use mathlib.Core.List.{List, _∷_, _++_, append-assoc}
 use Prim.Native.Nat.{ℕ}
 use lib.IntN.{ℤ}

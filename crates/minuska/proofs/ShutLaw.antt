@@ -1,4 +1,4 @@
--- The shut names, opened: an equation for each, so that a proof about code needs no `unfolding`.
+-- The shut names, opened: equations for what proofs about code cite, so that they need no `unfolding`.
 use mathlib.Core.Path.{_≡_, refl}
 use mathlib.Core.List.{List}
 use Prim.Native.Nat.{ℕ, zero, suc, _*_}

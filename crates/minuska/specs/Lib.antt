@@ -11,9 +11,9 @@ pub mod Answer
 pub mod Claim
 pub mod Slice
 pub mod Subterm
+-- Document 01's cases P1 to P12, over the relations and the claims.
+pub mod Marked
 -- The same, computed: shown by `proofs/` to be what the files above say.
 pub mod Computed
 -- What each public routine promises, a record each.
 pub mod Contract
--- Document 01's cases P1 to P12.
-pub mod Marked

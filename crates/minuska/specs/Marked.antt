@@ -1,29 +1,34 @@
--- P1 to P12: one table of cases, and one test that each must pass.
-use mathlib.Core.Bool.{Bool, true, false, Bool·beq, _&&_}
+-- P1 to P12: one table of cases, and what a case means, over the relations and demand 3's claim alone.
+use mathlib.Core.Path.{_≡_}
+use mathlib.Core.Bool.{Bool, true, false}
+use mathlib.Core.Logic.{_↔_}
 use mathlib.Core.Option.{Option, none, some}
 use mathlib.Core.List.{List, [], _∷_}
 use Prim.Native.Nat.{ℕ}
 use lib.IntN.{ℤ, pos, negsuc}
-use lib.Dec.{eqb}
-use Rattle.minuska.specs.Basics.{_>>=_, present, sameWhole}
-use Rattle.minuska.specs.Term.{Term, single}
+use lib.Dec.{T}
+use Rattle.minuska.specs.Basics.{Every}
+use Rattle.minuska.specs.Term.{Forest, Term, single}
 use Rattle.minuska.specs.Word.{encode}
-use Rattle.minuska.specs.Answer.{Outcome, refused, gives, StepResult, stepped, stuck, tooLarge, ReplayResult, reproduced, exceeded, notReproduced}
-use Rattle.minuska.specs.Computed.Read.{decodeTerm}
-use Rattle.minuska.specs.Computed.Match.{tryMatch, unbound}
-use Rattle.minuska.specs.Computed.Value.{value}
-use Rattle.minuska.specs.Slice.{replayAnswer, replaySays}
-use Rattle.minuska.specs.Computed.Outcome.{stepOutcome, replayOutcome}
+use Rattle.minuska.specs.Satisfaction.{Valuation, Matches, Evaluates}
+use Rattle.minuska.specs.Rule.{Table, isSymbolic, isExpression, okTerm, IsTable, IsConfiguration}
+use Rattle.minuska.specs.Rewriting.{First, Stuck}
+use Rattle.minuska.specs.Answer.{OverLimit, number, reproduced, exceeded, notReproduced}
+use Rattle.minuska.specs.Claim.{ReplayClaim}
 
--- the paper's words are small, so most are written as ℕ
+-- THE CASES. The paper's words are small, so most are written as ℕ.
 abbrev pub words : List ℕ → List ℤ
 words [] = []
 words (n ∷ ns) = pos n ∷ words ns
 
+-- the whole case's table and configuration
 abbrev pub sample : List ℤ
 sample =
     words
     (3 ∷ 10 ∷ 1 ∷ 9 ∷ 1 ∷ 3 ∷ 0 ∷ 9 ∷ 1 ∷ 4 ∷ 9 ∷ 3 ∷ 0 ∷ 2 ∷ 1 ∷ 4 ∷ 12 ∷ 2 ∷ 0 ∷ 3 ∷ 0 ∷ 1 ∷ 1 ∷ 10 ∷ 0 ∷ 9 ∷ 1 ∷ 3 ∷ 0 ∷ 10 ∷ 2 ∷ 3 ∷ 0 ∷ 9 ∷ 1 ∷ 3 ∷ 0 ∷ 20 ∷ 0 ∷ 10 ∷ 2 ∷ 3 ∷ 0 ∷ 3 ∷ 1 ∷ 3 ∷ 1 ∷ [])
+
+abbrev pub initial : List ℤ
+initial = words (9 ∷ 1 ∷ 2 ∷ 2 ∷ [])
 
 -- what the command line program prints: choices and last words, `not reproduced`, or `refused,` and a number
 pub data Printed : Type 0 where
@@ -40,46 +45,6 @@ pub data Case : Type 0 where
   steps : List ℤ → Option (ℕ × ℕ × List ℤ) → Case
   -- on the sample table and configuration: a log and a limit; then what is printed
   replays : List ℕ → ℕ → Printed → Case
-
-abbrev pub sameWords : List ℤ → List ℤ → Bool
-sameWords [] [] = true
-sameWords [] (y ∷ ys) = false
-sameWords (x ∷ xs) [] = false
-sameWords (x ∷ xs) (y ∷ ys) = sameWhole x y && sameWords xs ys
-
-abbrev pub hasWords : Option Term → List ℤ → Bool
-hasWords none ws = false
-hasWords (some t) ws = sameWords (encode (single t)) ws
-
-abbrev pub matchTerms : Option Term → Option Term → Bool
-matchTerms none g = false
-matchTerms (some l) none = false
-matchTerms (some l) (some g) = present (tryMatch (single l) (single g) unbound)
-
-abbrev pub sameStep : Outcome StepResult → Option (ℕ × ℕ × List ℤ) → Bool
-sameStep (refused r) y = false
-sameStep (gives (stepped n a h)) none = false
-sameStep (gives (stepped n a h)) (some y) = eqb n (y .0) && eqb a (y .1) && sameWords (encode (single h)) (y .2)
-sameStep (gives stuck) none = true
-sameStep (gives stuck) (some y) = false
-sameStep (gives tooLarge) y = false
-
-abbrev pub printed : Outcome (ReplayResult Term) → Printed → Bool
-printed o (refusal m) = eqb (replaySays (replayAnswer o) .number) m
-printed (refused r) (lines ns ws) = false
-printed (refused r) noPath = false
-printed (gives (reproduced cs h)) (lines ns ws) = sameWords (words cs) (words ns) && sameWords (encode (single h)) ws
-printed (gives (reproduced cs h)) noPath = false
-printed (gives exceeded) (lines ns ws) = false
-printed (gives exceeded) noPath = false
-printed (gives notReproduced) (lines ns ws) = false
-printed (gives notReproduced) noPath = true
-
-unfoldable pub passes : Case → Bool
-passes (evaluates e v) = hasWords (decodeTerm e >>= λ t. value unbound t) v
-passes (matches l c b) = Bool·beq (matchTerms (decodeTerm l) (decodeTerm c)) b
-passes (steps c x) = sameStep (stepOutcome sample c 1024) x
-passes (replays log n x) = printed (replayOutcome sample (words (9 ∷ 1 ∷ 2 ∷ 2 ∷ [])) log n 1024 256 4096) x
 
 unfoldable pub cases : List Case
 cases =
@@ -109,3 +74,40 @@ cases =
     replays [] 4 (lines [] (words (9 ∷ 1 ∷ 2 ∷ 2 ∷ []))) ∷
     -- P12: log 10,10,20
     replays (10 ∷ 10 ∷ 20 ∷ []) 4 (lines (0 ∷ 1 ∷ 2 ∷ []) (words (9 ∷ 1 ∷ 2 ∷ 1 ∷ []))) ∷ []
+
+-- WHAT A CASE MEANS. These words are that term, which is an expression, or has no call.
+pub record IsTerm (kind : Forest → Bool) (ws : List ℤ) (t : Term) : Type 0 where
+  pub accepted : T (okTerm t)
+  pub isKind : T (kind (single t))
+  pub encoded : encode (single t) ≡ ws
+
+-- Under every valuation, g satisfies the expression and no other term does.
+abbrev pub Worth : Term → Term → Type 0
+Worth e g = (ρ : Valuation) (h : Term) → Evaluates ρ (single e) (single h) ↔ (g ≡ h)
+
+-- The left matches under some valuation; under none.
+abbrev pub Fits : Bool → Term → Term → Type 0
+Fits true l g = (ρ : Valuation) × Matches ρ (single l) (single g)
+Fits false l g = (ρ : Valuation) → Matches ρ (single l) (single g) → ⊥
+
+-- The earliest rule that applies, its action and the successor's words; no rule and valuation relate g to any term.
+abbrev pub Steps : Option (ℕ × ℕ × List ℤ) → Table → Term → Type 0
+Steps none table g = Stuck table g
+Steps (some x) table g = (h : Term) × IsConfiguration (x .2) h × First table g (x .0) (x .1) h
+
+-- Demand 3's claim, of the answer that is printed.
+abbrev pub Prints : List ℕ → ℕ → Printed → Table → Term → Type 0
+Prints log limit (lines choices ws) table g = (last : Term) × IsConfiguration ws last × ReplayClaim table limit log g (reproduced choices last)
+Prints log limit noPath table g = ReplayClaim table limit log g notReproduced
+Prints log limit (refusal n) table g = (number OverLimit ≡ n) × ReplayClaim table limit log g exceeded
+
+-- The case's words are a term or a table, and a configuration, of which that holds.
+abbrev pub Means : Case → Type 0
+Means (evaluates e v) = (t : Term) × (g : Term) × IsTerm isExpression e t × IsConfiguration v g × Worth t g
+Means (matches l c b) = (t : Term) × (g : Term) × IsTerm isSymbolic l t × IsConfiguration c g × Fits b t g
+Means (steps c x) = (table : Table) × (g : Term) × IsTable sample table × IsConfiguration c g × Steps x table g
+Means (replays log limit x) = (table : Table) × (g : Term) × IsTable sample table × IsConfiguration initial g × Prints log limit x table g
+
+-- THE ONE STATEMENT: every case of the table (`proofs/MarkedLaw`: it holds).
+abbrev pub AllMean : Type 0
+AllMean = Every Means cases
