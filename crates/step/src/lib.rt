@@ -1,8 +1,8 @@
 // One step: by a given rule, and by the earliest that applies.
-pub mod conditions;
-pub mod matching;
-pub mod right;
-pub mod rule;
+mod conditions;
+mod matching;
+mod right;
+mod rule;
 
 use minuska::Check;
 use minuska::Refusal;
@@ -40,7 +40,7 @@ pub fn apply_rule<'a>(
 }
 
 // The same, with two arrays lent for where the left's variables stand.
-pub fn try_rule<'a>(
+fn try_rule<'a>(
     table: &'a [i64],
     index: &[usize; 1024],
     configuration: &'a [i64],
@@ -65,7 +65,7 @@ pub fn try_rule<'a>(
 }
 
 // The successor by a rule whose left matches and whose conditions hold, if it is within the limit that out gives.
-pub fn write_within<'a>(
+fn write_within<'a>(
     table: &'a [i64],
     index: &[usize; 1024],
     configuration: &'a [i64],
@@ -92,7 +92,7 @@ pub fn write_within<'a>(
 }
 
 // "The ceiling is half the out slice's words, rounded down, at most 32,768 nodes."
-pub fn out_limit(words: usize) -> usize
+fn out_limit(words: usize) -> usize
     ensures { λ r. ⌜ r ≡ outLimit words ⌝ }
 {
     if words < 65536 { words / 2 } else { 32768 }
@@ -135,7 +135,7 @@ pub fn apply_earliest<'a>(
 }
 
 // Whether a rule did not apply.
-pub fn is_stuck(answer: StepAnswer) -> bool
+fn is_stuck(answer: StepAnswer) -> bool
     ensures { λ r. ⌜ Decides r (answer ≡ StepAnswer.Stuck) ⌝ }
 {
     match answer {

@@ -1,13 +1,12 @@
 -- A built-in function's value is a leaf, and depends on the roots of its first three arguments alone.
 use mathlib.Core.Path.{_≡_, refl, sym, ap, _∙_}
 use mathlib.Core.Bool.{Bool, true, false, cond}
-use mathlib.Core.List.{List, [], _∷_}
-use Prim.Native.Nat.{ℕ, zero, suc}
+use Prim.Native.Nat.{ℕ}
 use lib.IntN.{ℤ}
-use lib.ListN.{getD}
 use Rattle.minuska.specs.Term.{Label, error, truth, whole, variable, call, symbol, Forest, Term, leaf}
-use Rattle.minuska.specs.Function.{asTruth, asWhole, asSymbol, inWord, shareRange, outOfRange, argument, onTruths, onWholes, Function, functions, noFunction, interpret}
+use Rattle.minuska.specs.Function.{asTruth, asWhole, asSymbol, inWord, shareRange, outOfRange, argument, onTruths, onWholes, functions, noFunction, interpret}
 use Rattle.minuska.proofs.FunctionLaw.{every-value}
+use Rattle.minuska.proofs.Tests.{_also_, every-at}
 use Rattle.value.specs.Builtin.{scalarOf, labelOf, leaves, applied}
 use Rattle.value.specs.declared.builtin.Scalar.{Scalar}
 use Rattle.value.specs.declared.builtin.Scalar.the-variants.{Error, Truth, Whole, Symbol}
@@ -58,21 +57,7 @@ label-kept (Truth b) = refl
 label-kept (Whole z) = refl
 label-kept (Symbol n) = refl
 
--- ---- a fact of every row of the table
-abbrev Rows : (Function → Type 0) → List Function → Type 0
-Rows P [] = Unit {0}
-Rows P (f ∷ fs) = P f × Rows P fs
-
-infixr 5 _also_
-_also_ : {A B : Type 0} → A → B → A × B
-a also b = (a, b)
-
-row-at : (P : Function → Type 0) (d : Function) → P d → (fs : List Function) → Rows P fs → (n : ℕ) → P (getD fs n d)
-row-at P d p [] x zero = p
-row-at P d p [] x (suc n) = p
-row-at P d p (f ∷ fs) x zero = x .0
-row-at P d p (f ∷ fs) x (suc n) = row-at P d p fs (x .1) n
-
+-- ---- every row of the table, from the roots
 module _ (xs : Forest) where
   truths : (f : Bool → Bool → Bool) → onTruths f (roots xs) ≡ onTruths f xs
   truths f = rw (kept-truth (argument 0 xs), kept-truth (argument 1 xs))
@@ -82,12 +67,12 @@ module _ (xs : Forest) where
 
   by-roots : (c : ℕ) → interpret c (roots xs) ≡ interpret c xs
   by-roots =
-      row-at (λ f. f .meaning (roots xs) ≡ f .meaning xs) noFunction refl functions
+      every-at (λ f. f .meaning (roots xs) ≡ f .meaning xs) functions noFunction
       (refl also refl also (rw (kept-truth (argument 0 xs))) also truths _ also truths _ also truths _ also
       (rw (kept-truth (argument 0 xs))) also (rw (kept-whole (argument 0 xs))) also
       wholes _ also wholes _ also wholes _ also wholes _ also wholes _ also
       (rw (kept-symbol (argument 0 xs), kept-symbol (argument 1 xs))) also
-      (rw (kept-whole (argument 0 xs), kept-whole (argument 1 xs), kept-whole (argument 2 xs))) also tt)
+      (rw (kept-whole (argument 0 xs), kept-whole (argument 1 xs), kept-whole (argument 2 xs))) also tt) refl
 
   -- THE VALUE at any arguments, from their roots
   pub interpret-is : (c : ℕ) → interpret c xs ≡ leaf (labelOf (applied c (scalarOf (argument 0 xs)) (scalarOf (argument 1 xs)) (scalarOf (argument 2 xs))))

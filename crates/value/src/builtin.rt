@@ -44,7 +44,7 @@ pub fn neg(a: Scalar) -> Scalar
 }
 
 // bool.and, bool.or, bool.eq.
-pub fn logic(code: usize, a: Scalar, b: Scalar) -> Scalar
+fn logic(code: usize, a: Scalar, b: Scalar) -> Scalar
     requires { ⌜ (3 ≤ code) × (code ≤ 5) ⌝ }
     ensures { λ r. ⌜ r ≡ applied code a b Scalar.Error ⌝ }
 {
@@ -82,7 +82,7 @@ pub fn is_whole(a: Scalar) -> Scalar
 }
 
 // z.plus, z.minus.
-pub fn arithmetic(code: usize, a: Scalar, b: Scalar) -> Scalar
+fn arithmetic(code: usize, a: Scalar, b: Scalar) -> Scalar
     requires { ⌜ (8 ≤ code) × (code ≤ 9) ⌝ }
     ensures { λ r. ⌜ r ≡ applied code a b Scalar.Error ⌝ }
 {
@@ -136,7 +136,7 @@ pub fn difference_fits(a: i64, b: i64) -> bool
 }
 
 // z.eq, z.le, z.lt.
-pub fn comparison(code: usize, a: Scalar, b: Scalar) -> Scalar
+fn comparison(code: usize, a: Scalar, b: Scalar) -> Scalar
     requires { ⌜ (10 ≤ code) × (code ≤ 12) ⌝ }
     ensures { λ r. ⌜ r ≡ applied code a b Scalar.Error ⌝ }
 {
@@ -211,7 +211,7 @@ pub fn small(x: i64) -> bool
 }
 
 // Toward zero; within the ranges the product fits.
-pub fn quotient(a: i64, b: i64, c: i64) -> Scalar
+fn quotient(a: i64, b: i64, c: i64) -> Scalar
     requires { ⌜ shareRange a b c ≡ true ⌝ }
     ensures { λ r. ⌜ r ≡ applied 14 (Scalar.Whole a) (Scalar.Whole b) (Scalar.Whole c) ⌝ }
 {

@@ -76,7 +76,7 @@ pub fn evaluate(
 }
 
 // The value of a call, which is a leaf, from the roots of its arguments: three at most, one behind the other.
-pub fn call(
+fn call(
     table: &[i64],
     configuration: &[i64],
     at: usize,
@@ -106,7 +106,7 @@ pub fn call(
 
 // The root of the first of the arguments that stand from a place on; where none is wanted, error. A call gets the slices as parts, [..], so that this function can
 // keep its own in registers.
-pub fn argument(
+fn argument(
     table: &[i64],
     configuration: &[i64],
     at: usize,
@@ -131,7 +131,7 @@ pub fn argument(
 }
 
 // The root of a variable's or a literal's value.
-pub fn leaf(
+fn leaf(
     table: &[i64],
     configuration: &[i64],
     at: usize,
@@ -182,7 +182,7 @@ pub fn datum_of(s: Scalar) -> i64
 }
 
 // What a ground node's two words say.
-pub fn scalar(tag: i64, datum: i64) -> Scalar
+fn scalar(tag: i64, datum: i64) -> Scalar
     requires { ⌜ HeadIn tag datum ⌝ }
     ensures { λ r. ⌜ HeadIs tag datum r ⌝ }
 {
@@ -241,7 +241,7 @@ pub fn condition<'a>(
 }
 
 // Whether two values have the same words: no copy of a part is made.
-pub fn same<'a>(table: &'a [i64], configuration: &'a [i64], a: Value, b: Value) -> bool
+fn same<'a>(table: &'a [i64], configuration: &'a [i64], a: Value, b: Value) -> bool
     requires { ⌜ Within (now table) (now configuration) a × Within (now table) (now configuration) b ⌝ }
     ensures { λ r. ⌜ Decides r (valueWords (now (table .entry)) (now (configuration .entry)) a ≡ valueWords (now (table .entry)) (now (configuration .entry)) b) ⌝ }
 {
@@ -264,7 +264,7 @@ pub fn own_words(v: Value) -> [i64; 2]
 }
 
 // A value's words: its part, or, of a computed value, its own.
-pub fn words_of<'a>(
+fn words_of<'a>(
     table: &'a [i64],
     configuration: &'a [i64],
     own: &'a [i64],
