@@ -15,17 +15,12 @@ fn number_from(line: &[u8], at: usize) -> Reading
     ensures { λ r. ⌜ NumberContract (now (line .entry)) at (r .number) × (r .at ≡ placeBehind at (r .number)) ⌝ }
 {
     let number = number_at(line, at);
-    match number {
-        Number::Natural { value: _, end } => Reading {
-            number,
-            at: end + 1,
-        },
-        Number::Negative { below: _, end } => Reading {
-            number,
-            at: end + 1,
-        },
-        Number::Bad => Reading { number, at },
-    }
+    let behind = match number {
+        Number::Natural { value: _, end } => end + 1,
+        Number::Negative { below: _, end } => end + 1,
+        Number::Bad => at,
+    };
+    Reading { number, at: behind }
 }
 
 // The line that was lent, and how far the reader has come.

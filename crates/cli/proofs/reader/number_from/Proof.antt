@@ -12,14 +12,14 @@ number-at-requires c κs = search needs
 enum-known-number : tie.Need-enum-known-number
 enum-known-number c = search needs
 
-add-t7 : tie.Need-add-t7
-add-t7 c = omega (arith, read-inside _ _ _ (c .before .before .before .number-at .ensures) (pos (c .before .number .given .0 .0)) (c .before .number .given .0 .1 .0) (c .before .number .given .1), c .before .before .before .before .before .good)
+add-behind : tie.Need-add-behind
+add-behind c = omega (arith, read-inside _ _ _ (c .before .before .before .number-at .ensures) (pos (c .before .number .given .0 .0)) (c .before .number .given .0 .1 .0) (c .before .number .given .1), c .before .before .before .before .before .good)
 
 enum-known-number-2 : tie.Need-enum-known-number-2
 enum-known-number-2 c = search needs
 
-add-t8 : tie.Need-add-t8
-add-t8 c = omega (arith, read-inside _ _ _ (c .before .before .before .number-at .ensures) (negsuc (c .before .number2 .given .0 .0)) (c .before .number2 .given .0 .1 .0) (c .before .number2 .given .1), c .before .before .before .before .before .good)
+add-behind-2 : tie.Need-add-behind-2
+add-behind-2 c = omega (arith, read-inside _ _ _ (c .before .before .before .number-at .ensures) (negsuc (c .before .number2 .given .0 .0)) (c .before .number2 .given .0 .1 .0) (c .before .number2 .given .1), c .before .before .before .before .before .good)
 
 enum-told : tie.Need-enum-told
 enum-told c = search needs
@@ -39,9 +39,9 @@ number-from-spec =
     (tie.spec
     number-at-requires
     enum-known-number
-    add-t7
+    add-behind
     enum-known-number-2
-    add-t8
+    add-behind-2
     enum-told
     returns
     returns-2
