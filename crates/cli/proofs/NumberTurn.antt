@@ -1,7 +1,7 @@
 -- The turns and returns of the number reader's routines.
 use mathlib.Core.Path.{_≡_, refl}
 use mathlib.Core.Bool.{Bool, true, false}
-use mathlib.Core.List.{List, _∷_}
+use mathlib.Core.List.{List}
 use Prim.Native.Nat.{ℕ, _+_, _-_, _*_, _^_, _≤_, _<_}
 use native.Mathlib.Omega.{arith}
 use native.Mathlib.Numerals.{add-one}
@@ -46,9 +46,6 @@ module _ (line : List ℕ) (at : ℕ) (p : length line ≤ at) where
 
 -- ---- at a byte
 module _ (line : List ℕ) (at : ℕ) (p : at < length line) where
-  pub a-byte : drop at line ≡ getD line at 0 ∷ drop (at + 1) line
-  a-byte = rw (add-one, drop-cons line at 0 p)
-
   pub comma-ends : isEnd line at ≡ eqb (getD line at 0) 44
   unfolding isEnd
   comma-ends = rw (lt-ltb at (length line) p)

@@ -5,7 +5,7 @@ use Prim.Native.Nat.{ℕ, suc, _+_, _≤_, _<_}
 use native.Mathlib.Omega.{arith}
 use native.Mathlib.Nat.{add-zero, zero-add}
 use native.Mathlib.Numerals.{add-one}
-use lib.ListN.{length, take, drop, getD, set, length-append, length-drop, take-append-drop}
+use lib.ListN.{length, take, drop, getD, set, length-append, take-append-drop}
 use lib.Seq.{drop-drop, take-suc, take-at, drop-at, set-split, set-at, length-take-le}
 use Rattle.minuska.specs.Slice.{write}
 use Rattle.cli.specs.Input.{continued}
@@ -14,10 +14,6 @@ use Rattle.cli.specs.Computed.Put.{put, Wrote}
 pub put-none : (old : List ℕ) (at : ℕ) → put old at [] ≡ old
 unfolding put
 put-none old at = rw add-zero (take-append-drop at old)
-
-pub put-length : (old : List ℕ) (at : ℕ) (t : List ℕ) → at + length t ≤ length old → length (put old at t) ≡ length old
-unfolding put
-put-length old at t p = simp (length-append, length-drop) (rw (length-take-le at old (omega arith)) (omega arith))
 
 -- one text behind the other
 pub put-then : (old : List ℕ) (at : ℕ) (t u : List ℕ) → at + length t ≤ length old → put (put old at t) (at + length t) u ≡ put old at (t ++ u)

@@ -2,7 +2,7 @@
 use mathlib.Core.Path.{_≡_, refl, sym, ap, _∙_, subst}
 use mathlib.Core.Bool.{Bool, true, false, cond}
 use mathlib.Core.List.{List, [], _∷_, _++_, append-nil, append-assoc}
-use Prim.Native.Nat.{ℕ, zero, suc, _+_, _-_, _*_, _^_, _<_}
+use Prim.Native.Nat.{ℕ, zero, suc, _+_, _-_, _*_, _^_, _≤_, _<_}
 use native.Mathlib.Omega.{arith}
 use native.Mathlib.Nat.{add-zero}
 use lib.IntN.{ℤ, pos, negsuc}
@@ -15,9 +15,9 @@ use Rattle.cli.specs.declared.number.Number.the-variants.{Natural, Negat
 use Rattle.cli.specs.Decimal.{digits, decimal, wholeText}
 use Rattle.cli.specs.Number.{numberOf, Small, Ends, Standing, NumberContract}
 use Rattle.cli.specs.Computed.Number.{digitOf, digitsFrom, naturalFrom, negated, signedFrom, isEnd, endedIn, numberAt}
-use Rattle.cli.proofs.ListLaw.{behind}
+use Rattle.cli.proofs.ListLaw.{behind, within}
 use Rattle.cli.proofs.DecimalLaw.{digits-zero, digits-more, decimal-positive, decimal-zero}
-use Rattle.cli.proofs.NumberLaw.{digit-byte, number-complete}
+use Rattle.cli.proofs.NumberLaw.{digit-byte, text-there, number-complete}
 
 -- ---- sound: what is read stands there
 record DigitsRead (n at : ℕ) (bs : List ℕ) (m e : ℕ) : Type 0 where
@@ -186,6 +186,10 @@ number-ended line at Bad h = tt
 pub number-sound : (line : List ℕ) (at : ℕ) → Sound line at (numberAt line at)
 unfolding numberAt
 number-sound line at = number-ended line at (signedFrom at (drop at line)) (signed-sound at (drop at line))
+
+-- what stands at a place ends within the line
+pub stands-inside : (line : List ℕ) (at : ℕ) (z : ℤ) (e : ℕ) → Standing line at z e → (at < e) × (e ≤ length line)
+stands-inside line at z e h = let w = within line at (wholeText z) (h .rest) (h .text) (text-there z) in omega (arith, h .ends, text-there z)
 
 -- ---- exact
 sound-of : (line : List ℕ) (at : ℕ) (z : ℤ) (e : ℕ) → Sound line at (numberOf z e) → Standing line at z e

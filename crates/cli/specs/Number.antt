@@ -5,8 +5,10 @@ use mathlib.Core.List.{List, [], _∷_, _++_}
 use Prim.Native.Nat.{ℕ, suc, _+_, _^_, _<_}
 use lib.IntN.{ℤ, pos, negsuc}
 use lib.ListN.{length, drop}
+use denote.Ref.{now}
 use Rattle.cli.specs.declared.number.Number.{Number}
 use Rattle.cli.specs.declared.number.Number.the-variants.{Natural, Negative, Bad}
+use Rattle.cli.specs.declared.reader.NumberReader.{NumberReader}
 use Rattle.cli.specs.Decimal.{wholeText}
 use Rattle.cli.specs.Computed.Number.{numberAt}
 
@@ -37,3 +39,16 @@ pub record NumberContract (line : List ℕ) (at : ℕ) (r : Number) : Type 0 whe
   pub answer : r ≡ numberAt line at
   pub reads : (z : ℤ) (end : ℕ) → (r ≡ numberOf z end) ↔ Standing line at z end
   pub bad : (r ≡ Bad) ↔ ((z : ℤ) (end : ℕ) → Standing line at z end → ⊥)
+
+-- Where a reader has come to with a number: behind the comma that ends it. The line's end counts as one, so that behind the last number it is one beyond
+-- the line, and behind a last comma at the line's end, where no number stands. Without a number the place stays.
+abbrev pub placeBehind : ℕ → Number → ℕ
+placeBehind at (Natural n end) = suc end
+placeBehind at (Negative n end) = suc end
+placeBehind at Bad = at
+
+-- "The number reader keeps the line it was lent and how far it has come": the number that it has come to, the same line, the place behind.
+pub record NextContract (before after : NumberReader) (r : Number) : Type 0 where
+  pub number : NumberContract (now (before .line)) (before .at) r
+  pub keeps : after .line ≡ before .line
+  pub place : after .at ≡ placeBehind (before .at) r
