@@ -32,7 +32,7 @@ use Rattle.minuska.specs.Computed.Place.{RuleCountIs}
 use Rattle.minuska.proofs.AcceptedLaw.{configuration-length, refused-first}
 use Rattle.step.specs.Accept.{AcceptContract}
 use Rattle.replay.specs.Reading.{tableOf, termOf}
-use Rattle.replay.specs.Layout.{base}
+use Rattle.memory.specs.Layout.{base}
 use Rattle.replay.specs.Sizes.{Fitting, LimitBad, SizesAre}
 use Rattle.replay.specs.Turns.{Room}
 use Rattle.replay.specs.Endings.{AnswerContract}

@@ -6,8 +6,8 @@ use mathlib.Core.List.{List, [], _∷_, _++_, append-assoc}
 use Prim.Native.Nat.{ℕ, _+_, _-_, _≤_, _<_}
 use native.Mathlib.Nat.{zero-mul}
 use native.Mathlib.Omega.{arith}
-use lib.IntN.{ℤ, pos}
-use lib.ListN.{length, take, drop, replicate, length-drop, length-replicate, take-append-drop}
+use lib.IntN.{ℤ}
+use lib.ListN.{length, take, drop, length-drop, take-append-drop}
 use lib.Seq.{paste, length-paste, length-take-le, take-length, take-at, drop-at, drop-append-le, drop-drop}
 use Rattle.minuska.specs.Term.{Term, single, nodeCount}
 use Rattle.minuska.specs.Word.{encode}
@@ -23,7 +23,9 @@ use Rattle.minuska.proofs.ShutLaw.{replay-is, replay-out-reproduced, replay-out
 use Rattle.replay.specs.declared.search.Found.{Found}
 use Rattle.replay.specs.declared.search.Found.the-variants.{Path, Over, Nothing}
 use Rattle.replay.specs.Reading.{tableOf, termOf}
-use Rattle.replay.specs.Layout.{base, entered, Enters}
+use Rattle.words.proofs.PartLaw.{drop-later}
+use Rattle.words.proofs.CopyLaw.{paste-start, same-zeros}
+use Rattle.memory.specs.Layout.{base, entered, Enters}
 use Rattle.replay.specs.Stack.{chosen}
 use Rattle.replay.specs.Turns.{termAt, positionAt, Framed, Sound, Held, MemoryOf, stateOf, Room, SearchSays, SearchContract}
 use Rattle.replay.specs.Endings.{SetsUp, restored, FoundWithin, endedAs, foundWords, choicesAfter, EndContract, AnswerContract}
@@ -31,7 +33,7 @@ use Rattle.replay.proofs.ReadingLaw.{is-term}
 use Rattle.replay.proofs.StackLaw as Stack
 use Rattle.replay.proofs.StackLaw.{chosen-long}
 use Rattle.replay.proofs.RecallLaw.{recalls-start}
-use Rattle.replay.proofs.LayoutLaw.{frame-before, drop-later, empty-length, empty-spare, enters}
+use Rattle.memory.proofs.LayoutLaw.{frame-before, empty-length, empty-spare, enters}
 use Rattle.replay.proofs.FrameLaw.{in-top, entered-held, in-sound}
 
 -- reproduced: the last configuration's words in out
@@ -46,11 +48,6 @@ empty (a ∷ l) h = absurd (let f : ⊥ = omega arith in f)
 replay-empty : (t : Table) (limit : ℕ) (log : List ℕ) (g : Term) → length log ≡ 0 → replay t limit log g ≡ reproduced [] g
 replay-empty t limit log g h = ap (λ (l : List ℕ). replay t limit l g) (empty log h) ∙ replay-is t limit [] g
 
-paste-front : (out cs : List ℤ) → paste out 0 cs (length cs) ≡ cs ++ drop (length cs) out
-paste-front out cs =
-    let e : 0 + length cs ≡ length cs = omega arith in
-    ap₂ (λ (a : List ℤ) (m : ℕ). a ++ drop m out) (take-length cs) e
-
 pub answer-empty : (ws cs : List ℤ) (log : List ℕ) (room : ℕ) (out : List ℤ) (choices : List ℕ) (work out′ work′ : List ℤ) → Accepted cs → length log ≡ 0
     → out′ ≡ paste out 0 cs (length cs) → work′ ≡ writeZeros (base room (length log) + (room + 2)) work → AnswerContract ws cs log room out choices work out′ choices work′ Reproduced
 unfolding replayAnswer
@@ -58,7 +55,7 @@ answer-empty ws cs log room out choices work out′ work′ acc h ho hw =
     let e = replay-empty (tableOf ws) (outLimit room) log (termOf cs) h in
     record {
       answer = rw e;
-      leaves = rw e (ho ∙ paste-front out cs ∙ sym (written out cs [] (termOf cs) (is-term cs acc .words)));
+      leaves = rw e (ho ∙ paste-start out cs ∙ sym (written out cs [] (termOf cs) (is-term cs acc .words)));
       leaves-choices = rw e (sym (replay-choices-reproduced choices [] (termOf cs)));
       leaves-work = hw;
     }
@@ -71,11 +68,6 @@ back room k at out out′ work′ r h q e f =
     ap₂ (λ (a b : List ℤ). take k out′ ++ (take (room - k) a ++ b)) (sym (drop-drop k at work′) ∙ ap (drop k) e ∙ drop-append-le k (take room out) r (omega arith)) f
     ∙ ap (λ (a : List ℤ). take k out′ ++ (a ++ drop room out)) (take-at (drop k (take room out)) r (room - k) y)
     ∙ ap (λ (a : List ℤ). take k out′ ++ a) (sym (drop-append-le k (take room out) (drop room out) (omega arith)) ∙ ap (drop k) (take-append-drop room out))
-
-zeros-same : (m : ℕ) (w w′ : List ℤ) → drop m w′ ≡ drop m w → writeZeros m w′ ≡ writeZeros m w
-zeros-same m w w′ e =
-    let z = length-replicate m (pos 0) in
-    ap (λ (a : List ℤ). replicate m (pos 0) ++ a) (ap (λ (k : ℕ). drop k w′) z ∙ e ∙ ap (λ (k : ℕ). drop k w) (sym z))
 
 -- ---- the initial configuration is entered
 module _ (ws : List ℤ) (index : List ℕ) (rules room : ℕ) (cs : List ℤ) (log : List ℕ) (out work : List ℤ) (rm : Room ws index rules room log out work) (small : length cs ≤ room) (some : 0 < length log) (acc : Accepted cs) where
@@ -130,7 +122,7 @@ module _ (ws : List ℤ) (index : List ℕ) (rules room : ℕ) (cs : List ℤ) (
 
         none-there : (i : ℕ) (u : Term) → Held room (length log) work₁ 0 i u → ⊥
         none-there i u (inl h) = let e = empty-length room work₁ (base room i) (up .forgets .empty i (h .1)) in let k = h .2 in omega arith
-        none-there i u (inr h) = let l : i < length log = omega (arith, h .2) in let e = empty-length room work₁ (base room i) (up .forgets .empty i l) in let k = h .3 .some in omega arith
+        none-there i u (inr h) = let e = empty-length room work₁ (base room i) (up .forgets .empty i (h .2)) in let k = h .3 .some in omega arith
 
         none-held : (i : ℕ) (u : Term) → Held room (length log) opened 0 i u → ⊥
         none-held i u (inl h) = none-there i u (before i u (h .0) (inl h))
@@ -170,7 +162,7 @@ module _ (ws : List ℤ) (index : List ℕ) (rules room : ℕ) (cs : List ℤ) (
       work-same : writeZeros (last + (room + 2)) work′ ≡ writeZeros (last + (room + 2)) work
       work-same =
           let q : drop (last + room) work′ ≡ drop (last + room) work = sym (drop-drop room last work′) ∙ ap (drop room) saved′ ∙ drop-at (take room out) (drop (last + room) work) room kept-long in
-          zeros-same (last + (room + 2)) work work′ (drop-later (last + room) (last + (room + 2)) work′ work q (omega arith))
+          same-zeros (last + (room + 2)) work work′ (drop-later (last + room) (last + (room + 2)) work′ work q (omega arith))
 
       restored-is : (k : ℕ) → k ≤ room → restored room k last out′ work′ ≡ take k out′ ++ drop k out
       restored-is k q = back room k last out out′ work′ (drop (last + room) work) q (rm .out-fits) saved′ (found .kept .out-kept)

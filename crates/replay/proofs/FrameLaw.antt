@@ -10,11 +10,12 @@ use lib.ListN.{length, getD, take}
 use Rattle.minuska.specs.Computed.Place.{Accepted}
 use Rattle.replay.specs.Reading.{termOf}
 use Rattle.minuska.specs.Term.{Term}
-use Rattle.replay.specs.Layout.{base, lengthOf, positionOf, wordsOf, Spare, advanced, Enters}
+use Rattle.memory.specs.Layout.{base, positionOf, wordsOf, Spare, advanced, Enters}
 use Rattle.replay.specs.Turns.{termAt, positionAt, Framed, Sound, Held}
-use Rattle.replay.specs.Memory.{Entry, Old, Keeps}
-use Rattle.replay.proofs.MemoryLaw.{still-entry}
-use Rattle.replay.proofs.LayoutLaw.{frame-before, position-same, length-same, counted-same, words-same, word-below, word-behind, drop-later, still-length, still-words, still-spare, advanced-long, advanced-below, advanced-other, advanced-position, advanced-counted}
+use Rattle.words.proofs.PartLaw.{word-below, word-behind}
+use Rattle.memory.specs.Memory.{Entry, Known, Keeps}
+use Rattle.memory.proofs.MemoryLaw.{still-entry}
+use Rattle.memory.proofs.LayoutLaw.{frame-before, position-same, length-same, words-same, still-length, still-words, still-spare, advanced-long, advanced-below, advanced-other, advanced-position}
 
 -- ---- below what was written
 module _ (rules room : ℕ) (w w′ : List ℤ) (lo : ℕ) (same : take lo w′ ≡ take lo w) (at : ℕ) (under : at + (room + 2) ≤ lo) (f : Framed rules room w at) where
@@ -27,7 +28,6 @@ module _ (rules room : ℕ) (w w′ : List ℤ) (lo : ℕ) (same : take lo w′ 
   framed-below : Framed rules room w′ at
   framed-below =
       record {
-        counted = counted-same room w w′ lo same at under (f .counted);
         long = subst⁻¹ (λ (k : ℕ). k ≤ room) (length-same room w w′ lo same at (omega arith)) (f .long);
         accepted = subst⁻¹ Accepted words-below (f .accepted);
         position = subst⁻¹ (λ (k : ℕ). k ≤ rules) position-below (f .position);
@@ -41,7 +41,7 @@ module _ (room m : ℕ) (w w′ : List ℤ) (d e i : ℕ) (u : Term) (le : d ≤
         omega (arith, h .0),
         h .1,
         subst (λ (k : ℕ). 0 < k) (still-length room w w′ (base room i) long same) (h .2),
-        ap termOf (sym (still-words room w w′ (base room i) long same (sp (h .1) .long))) ∙ h .3,
+        ap termOf (sym (still-words room w w′ (base room i) long same (sp (h .1)))) ∙ h .3,
       )
   held-still (inr h) = inr (h .0, h .1, h .2, still-entry room w w′ (base room i) long same (h .0) (h .3), h .4)
 
@@ -109,7 +109,6 @@ module _ (rules room m : ℕ) (w : List ℤ) (d p : ℕ) (fits : base room d + (
           let f = s .frames d (omega arith) in
           subst (λ (x : ℕ). Framed rules room w₁ (base room x)) e
           (record {
-            counted = advanced-counted room w (base room d) p fits (f .counted .words);
             long = subst⁻¹ (λ (x : ℕ). x ≤ room) (length-same room w w₁ lo same₁ (base room d) (omega arith)) (f .long);
             accepted = subst⁻¹ Accepted words₁ (f .accepted);
             position = subst⁻¹ (λ (x : ℕ). x ≤ rules) on-position h;
@@ -140,16 +139,16 @@ module _ (rules room m : ℕ) (w w′ : List ℤ) (j : ℕ) (c : List ℤ) (smal
   entered-held d i u le n sp h = held-still room m w w′ d j i u le (ent .wide) (frame₂ i n) sp h
 
   -- held for this one, it was held, or stood in the frame
-  pub in-held : ((i : ℕ) → i < m → Spare room w (base room i)) → (j + 4 < m → Keeps room w w′ (base room j)) → (d i : ℕ) (u : Term) → d < j → Held room m w′ j i u → Held room m w d i u
+  pub in-held : ((i : ℕ) → i < m → Spare room w (base room i)) → Keeps room w w′ (base room j) → (d i : ℕ) (u : Term) → d < j → Held room m w′ j i u → Held room m w d i u
   in-held sp ks d i u l h = side (decLt i j) (decLt j i) h
     where
       this : (i : ℕ) → j ≡ i → Held room m w′ j i u → Held room m w d i u
       this i e (inl h) = absurd (let f : ⊥ = omega (arith, h .0) in f)
       this i e (inr h) =
-          let old = ks (omega (arith, h .2)) (h .0) (subst⁻¹ (λ (x : ℕ). Entry room w′ (base room x) (h .0)) e (h .3)) in
+          let old = ks (h .0) (subst⁻¹ (λ (x : ℕ). Entry room w′ (base room x) (h .0)) e (h .3)) in
           subst (λ (x : ℕ). Held room m w d x u) e (from old)
         where
-          from : Old room w (base room j) (h .0) → Held room m w d j u
+          from : Known room w (base room j) (h .0) → Held room m w d j u
           from (inl f) = inr (h .0, omega arith, omega (arith, h .2), f, h .4)
           from (inr f) = inl (l, omega (arith, h .2), f .0, ap termOf (sym (f .1)) ∙ h .4)
 
@@ -164,7 +163,6 @@ module _ (rules room m : ℕ) (w w′ : List ℤ) (j : ℕ) (c : List ℤ) (smal
       entered-frame : Framed rules room w′ (base room j)
       entered-frame =
           record {
-            counted = ent .counted;
             long = subst⁻¹ (λ (x : ℕ). x ≤ room) (ent .long) small;
             accepted = subst⁻¹ Accepted (ent .words) acc;
             position = subst⁻¹ (λ (x : ℕ). x ≤ rules) (ent .position) (omega arith);
@@ -184,7 +182,7 @@ module _ (rules room m : ℕ) (w w′ : List ℤ) (j : ℕ) (c : List ℤ) (smal
       spares i k (no q) (yes x) = other i k (λ e. let f : ⊥ = omega arith in f)
       spares i k (no q) (no x) =
           let e : j ≡ i = omega arith in
-          subst (λ (y : ℕ). Spare room w′ (base room y)) e (record { words = entered-frame .counted .words; long = entered-frame .long })
+          subst (λ (y : ℕ). Spare room w′ (base room y)) e (entered-frame .long)
 
 -- back from depth d: its configuration is held
 pub back-held : (room m : ℕ) (w : List ℤ) (d i : ℕ) (u : Term) → Held room m w d i u → Held room m w (suc d) i u ⊎ ((suc d ≡ i) × (termAt room w (suc d) ≡ u))

@@ -1,9 +1,6 @@
 pub mod ReadingLaw
 pub mod StackLaw
 pub mod RecallLaw
-pub mod LayoutLaw
-pub mod MemoryLaw
-pub mod PutLaw
 pub mod SeekLaw
 pub mod ToldLaw
 pub mod FrameLaw

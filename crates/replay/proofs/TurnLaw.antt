@@ -8,10 +8,10 @@ use Prim.Native.Nat.{ℕ, suc, _+_, _*_, _≤_, _<_}
 use native.Mathlib.Numerals.{add-one}
 use native.Mathlib.Omega.{arith}
 use native.Mathlib.Decide.{decLt}
-use lib.Dec.{leb, ltb}
+use lib.Dec.{leb}
 use lib.IntN.{ℤ}
 use lib.ListN.{length, getD, take, drop}
-use borrow.Author.Tests.{leb-true, ltb-true}
+use borrow.Author.Tests.{leb-true}
 use Rattle.minuska.specs.Term.{Term, single, nodeCount}
 use Rattle.minuska.specs.Word.{encode}
 use Rattle.minuska.specs.Rule.{Table, IsTable, IsConfiguration}
@@ -25,14 +25,15 @@ use Rattle.minuska.proofs.ReplayLaw.{next-iff}
 use Rattle.replay.specs.declared.search.Turned.{Turned}
 use Rattle.replay.specs.declared.search.Turned.the-variants.{On, Beyond, Made, Ended}
 use Rattle.replay.specs.Reading.{tableOf, termOf}
-use Rattle.replay.specs.Layout.{base, wordsOf, Spare, advanced, Enters}
-use Rattle.replay.specs.Memory.{Keeps, Known}
+use Rattle.memory.specs.Layout.{base, wordsOf, Spare, advanced, Enters}
+use Rattle.memory.specs.Memory.{Keeps, Known}
 use Rattle.replay.specs.Stack.{mark, chosen, rest}
 use Rattle.replay.specs.Turns.{termAt, positionAt, Framed, Begun, Sound, Held, stateOf, leftOf, Room, Kept, Sought, TryContract, MadeWithin, Settles, Same, TurnSays, TurnContract}
 use Rattle.replay.proofs.ReadingLaw.{term-of, is-table, is-term}
 use Rattle.replay.proofs.StackLaw as Stack
 use Rattle.replay.proofs.RecallLaw as Recall
-use Rattle.replay.proofs.LayoutLaw.{frame-before, drop-later, advanced-long, advanced-behind}
+use Rattle.memory.proofs.LayoutLaw.{frame-before, advanced-long, advanced-behind}
+use Rattle.words.proofs.PartLaw.{drop-later}
 use Rattle.replay.proofs.FrameLaw.{on-terms, on-top, on-positions, on-position, on-held, on-sound, in-terms, in-positions, in-top, in-held, in-sound, back-held}
 use Rattle.minuska.proofs.AcceptedLaw.{term-length}
 use Rattle.replay.proofs.ToldLaw.{limit-words, Tells, tried-tells}
@@ -138,10 +139,10 @@ module _ (ws : List ℤ) (index : List ℕ) (rules room : ℕ) (log : List ℕ) 
       begun₁ i h = at (decLt i d)
         where
           at : Dec (i < d) → Begun rules room work₁ (base room i)
-          at (yes x) = let f = sound₁ .frames i (omega arith) in record { counted = f .counted; some = sound₁ .begun i x; within = f .position }
+          at (yes x) = let f = sound₁ .frames i (omega arith) in record { some = sound₁ .begun i x; within = f .position }
           at (no x) =
               let z : d ≡ i = omega arith in
-              subst (λ (y : ℕ). Begun rules room work₁ (base room y)) z (record { counted = sound₁ .frames d (omega arith) .counted; some = omega (arith, tries₁ .on); within = omega (arith, tries₁ .on) })
+              subst (λ (y : ℕ). Begun rules room work₁ (base room y)) z (record { some = omega (arith, tries₁ .on); within = omega (arith, tries₁ .on) })
 
       -- a successor within the limit is a configuration
       is-configuration : (h : Term) → next t action rule (term d) ≡ some h → leb (nodeCount h) (outLimit room) ≡ true → IsConfiguration (encode (single h)) h
@@ -199,11 +200,11 @@ module _ (ws : List ℤ) (index : List ℕ) (rules room : ℕ) (log : List ℕ) 
               c = take (2 * n) out′
 
               -- it is known
-              known-held : Known room work₁ (base room (suc d)) (ltb (d + 5) (length log)) c → Held room (length log) work₁ d (suc d) h
-              known-held (inl k) = inl (omega arith, l, k .0, ap termOf (k .1) ∙ term-of c h is)
-              known-held (inr k) = let x = ltb-true (d + 5) (length log) (k .0) in inr (c, omega arith, omega arith, k .1, term-of c h is)
+              known-held : Known room work₁ (base room (suc d)) c → Held room (length log) work₁ d (suc d) h
+              known-held (inl k) = inr (c, omega arith, l, k, term-of c h is)
+              known-held (inr k) = inl (omega arith, l, k .0, ap termOf (sym (k .1)) ∙ term-of c h is)
 
-              turned-known : Known room work₁ (base room (suc d)) (ltb (d + 5) (length log)) c → TurnSays t rules room log d work out′ work₁ (On d)
+              turned-known : Known room work₁ (base room (suc d)) c → TurnSays t rules room log d work out′ work₁ (On d)
               unfolding stateOf leftOf
               turned-known k =
                   let own : Held room (length log) work₁ d (suc d) h = known-held k in
@@ -218,7 +219,7 @@ module _ (ws : List ℤ) (index : List ℕ) (rules room : ℕ) (log : List ℕ) 
                   )
 
               -- it is entered
-              module _ (work₂ : List ℤ) (ent : Enters room work₁ work₂ (base room (suc d)) c) (ks : d + 5 < length log → Keeps room work₁ work₂ (base room (suc d))) where
+              module _ (work₂ : List ℤ) (ent : Enters room work₁ work₂ (base room (suc d)) c) (ks : Keeps room work₁ work₂ (base room (suc d))) where
                 small : length c ≤ room
                 small = omega (arith, ap length front, term-length h, few)
 
@@ -232,7 +233,7 @@ module _ (ws : List ℤ) (index : List ℕ) (rules room : ℕ) (log : List ℕ) 
                 top₂ = in-top rules room (length log) work₁ work₂ (suc d) c small ent frames₁ ∙ term-of c h is
 
                 held₂ : (i : ℕ) (u : Term) → Held room (length log) work₂ (suc d) i u → Held room (length log) work d i u
-                held₂ i u k = held₁ i u (in-held rules room (length log) work₁ work₂ (suc d) c small ent frames₁ (sound₁ .spare) (λ x. ks (omega arith)) d i u (omega arith) k)
+                held₂ i u k = held₁ i u (in-held rules room (length log) work₁ work₂ (suc d) c small ent frames₁ (sound₁ .spare) ks d i u (omega arith) k)
 
                 turned-down : TurnSays t rules room log d work out′ work₂ (On (suc d))
                 unfolding stateOf leftOf
@@ -267,7 +268,7 @@ module _ (ws : List ℤ) (index : List ℕ) (rules room : ℕ) (log : List ℕ) 
         settled (S.Stepped m a n) z w r (inl k) =
             let l : suc d < length log = omega (arith, k .0) in
             let ent : Enters room work₁ w (base room (suc d)) (take (2 * n) out′) = rw (add-one d) at (k .2) in
-            let ks : d + 5 < length log → Keeps room work₁ w (base room (suc d)) = rw (add-one d) at (k .3) in
+            let ks : Keeps room work₁ w (base room (suc d)) = rw (add-one d) at (k .3) in
             let on : r ≡ On (suc d) = rw (add-one d) at (k .1) in
             rw on (record {
               kept = kept w (long₂ out′ (z .told .0) (z .told .1) (z .told .2) n (z .told .3) (z .told .4) l w ent ks) (behind₂ out′ (z .told .0) (z .told .1) (z .told .2) n (z .told .3) (z .told .4) l w ent ks) (z .wide) (z .kept);
@@ -275,7 +276,7 @@ module _ (ws : List ℤ) (index : List ℕ) (rules room : ℕ) (log : List ℕ) 
             })
         settled (S.Stepped m a n) z w r (inr (inl k)) =
             let l : suc d < length log = omega (arith, k .0) in
-            let known : Known room work₁ (base room (suc d)) (ltb (d + 5) (length log)) (take (2 * n) out′) = rw (add-one d) at (k .3) in
+            let known : Known room work₁ (base room (suc d)) (take (2 * n) out′) = rw (add-one d) at (k .3) in
             unmoved r (On d) w (k .1) (k .2) (z .wide) (z .kept) (turned-known out′ (z .told .0) (z .told .1) (z .told .2) n (z .told .3) (z .told .4) l known)
         settled (S.Stepped m a n) z w r (inr (inr k)) =
             unmoved r (Made (2 * n)) w (k .1) (k .2) (z .wide) (z .kept) (turned-made out′ (z .told .0) (z .told .1) (z .told .2) n (z .told .3) (z .told .4) (k .0))

@@ -16,7 +16,7 @@ use Rattle.minuska.specs.Slice.{outLimit}
 use Rattle.replay.specs.declared.search.Found.{Found}
 use Rattle.replay.specs.declared.search.Found.the-variants.{Path, Over, Nothing}
 use Rattle.replay.specs.Reading.{tableOf, termOf}
-use Rattle.replay.specs.Layout.{base, entered, Forgets}
+use Rattle.memory.specs.Layout.{base, entered, Forgets}
 use Rattle.replay.specs.Stack.{chosen}
 use Rattle.replay.specs.Turns.{positionAt, Begun}
 

@@ -2,10 +2,6 @@
 pub mod Reading
 -- The search as a loop over frames.
 pub mod Stack
--- How a frame lies in the work area.
-pub mod Layout
--- What a frame holds besides.
-pub mod Memory
 -- What the routines promise.
 pub mod Sizes
 pub mod Turns

@@ -5,7 +5,6 @@ use mathlib.Core.Logic.{_⊎_}
 use mathlib.Core.Option.{none, some}
 use mathlib.Core.List.{List, _++_}
 use Prim.Native.Nat.{ℕ, suc, _+_, _*_, _≤_, _<_}
-use lib.Dec.{ltb}
 use lib.IntN.{ℤ}
 use lib.ListN.{length, getD, getElem?, take, drop}
 use Rattle.minuska.specs.Term.{Term, nodeCount}
@@ -22,8 +21,8 @@ use Rattle.replay.specs.declared.search.Turned.the-variants.{On, Beyond,
 use Rattle.replay.specs.declared.search.Found.{Found}
 use Rattle.replay.specs.declared.search.Found.the-variants.{Path, Over, Nothing}
 use Rattle.replay.specs.Reading.{tableOf, termOf}
-use Rattle.replay.specs.Layout.{base, lengthOf, positionOf, wordsOf, Counted, Spare, Enters}
-use Rattle.replay.specs.Memory.{Entry, Keeps, Known}
+use Rattle.memory.specs.Layout.{base, lengthOf, positionOf, wordsOf, Spare, Enters}
+use Rattle.memory.specs.Memory.{Entry, Keeps, Known}
 use Rattle.replay.specs.Stack.{mark, chosen, state, left, Recalls}
 
 -- ---- the frames
@@ -35,14 +34,12 @@ positionAt room work i = positionOf room work (base room i)
 
 -- a frame that the search may stand at: an accepted configuration, and a position in the order of rules or at its end
 pub record Framed (rules room : ℕ) (work : List ℤ) (at : ℕ) : Type 0 where
-  pub counted : Counted room work at
   pub long : lengthOf room work at ≤ room
   pub accepted : Accepted (wordsOf room work at)
   pub position : positionOf room work at ≤ rules
 
 -- a frame that has tried a rule: the one before its next position
 pub record Begun (rules room : ℕ) (work : List ℤ) (at : ℕ) : Type 0 where
-  pub counted : Counted room work at
   pub some : 0 < positionOf room work at
   pub within : positionOf room work at ≤ rules
 
@@ -52,11 +49,10 @@ pub record Sound (rules room m : ℕ) (work : List ℤ) (d : ℕ) : Type 0 where
   pub begun : (i : ℕ) → i < d → 0 < positionAt room work i
   pub spare : (i : ℕ) → i < m → Spare room work (base room i)
 
--- what is held for depth i while the search stands at depth d: the configuration of a frame behind d, whose search has ended; and what a frame's table has,
--- where five actions are left or more
+-- what is held for depth i while the search stands at depth d: the configuration of a frame behind d, whose search has ended; and what a frame's table has
 abbrev pub Held : ℕ → ℕ → List ℤ → ℕ → ℕ → Term → Type 0
 Held room m work d i u =
-    ((d < i) × (i < m) × (0 < lengthOf room work (base room i)) × (termAt room work i ≡ u)) ⊎ ((c : List ℤ) × (0 < i) × (i + 4 < m) × Entry room work (base room i) c × (termOf c ≡ u))
+    ((d < i) × (i < m) × (0 < lengthOf room work (base room i)) × (termAt room work i ≡ u)) ⊎ ((c : List ℤ) × (0 < i) × (i < m) × Entry room work (base room i) c × (termOf c ≡ u))
 
 -- what the search will say that stands at depth d, with whether a successor above the limit was met; and the turns that it has left
 unfoldable pub stateOf : Table → ℕ → List ℕ → List ℤ → Bool → ℕ → ReplayResult Term
@@ -113,7 +109,7 @@ MadeWithin (S.Refused r) room out = Unit {0}
 -- a successor, so many words of out: it is entered; or passed over, since it is known; or the last
 abbrev pub Descends : ℕ → ℕ → ℕ → ℕ → List ℤ → List ℤ → List ℤ → Turned → Type 0
 Descends k m room d out work work′ r =
-    ((d + 1 < m) × (r ≡ On (d + 1)) × Enters room work work′ (base room (d + 1)) (take k out) × (d + 5 < m → Keeps room work work′ (base room (d + 1)))) ⊎ ((d + 1 < m) × (r ≡ On d) × (work′ ≡ work) × Known room work (base room (d + 1)) (ltb (d + 5) m) (take k out)) ⊎ ((m ≤ d + 1) × (r ≡ Made k) × (work′ ≡ work))
+    ((d + 1 < m) × (r ≡ On (d + 1)) × Enters room work work′ (base room (d + 1)) (take k out) × Keeps room work work′ (base room (d + 1))) ⊎ ((d + 1 < m) × (r ≡ On d) × (work′ ≡ work) × Known room work (base room (d + 1)) (take k out)) ⊎ ((m ≤ d + 1) × (r ≡ Made k) × (work′ ≡ work))
 
 abbrev pub Settles : StepAnswer → ℕ → ℕ → ℕ → List ℤ → List ℤ → List ℤ → Turned → Type 0
 Settles (S.Stepped n a k) m room d out work work′ r = Descends (2 * k) m room d out work work′ r

@@ -1,7 +1,6 @@
 // The search has ended: its answer, in the slices that are lent for it.
-use crate::frame;
 use crate::search::Found;
-use crate::words;
+use memory::frame;
 use minuska::Refusal;
 use minuska::ReplayAnswer;
 ghost use mathlib.Core.Path.{_≡_};
@@ -12,7 +11,7 @@ ghost use Rattle.minuska.specs.Slice.{writeZeros};
 ghost use Rattle.minuska.specs.Computed.Step.{order};
 ghost use Rattle.minuska.specs.Computed.Place.{Indexed};
 ghost use Rattle.replay.specs.Reading.{tableOf};
-ghost use Rattle.replay.specs.Layout.{base, positionOf};
+ghost use Rattle.memory.specs.Layout.{base, positionOf};
 ghost use Rattle.replay.specs.Stack.{chosen};
 ghost use Rattle.replay.specs.Turns.{positionAt, Begun};
 ghost use Rattle.replay.specs.Endings.{restored, FoundWithin, EndContract};
@@ -58,8 +57,9 @@ fn give_back(out: &mut [i64], work: &mut [i64], at: usize, room: usize, words: u
 {
     let from = at + words;
     let to = at + room;
-    words::copy_in(out, words, &work[from..to]);
-    words::clear(work, at + (room + 2));
+    words::copy(out, words, &work[from..to]);
+    let end = at + (room + 2);
+    words::clear(&mut work[..end]);
 }
 
 pub fn conclude(

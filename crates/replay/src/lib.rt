@@ -1,12 +1,9 @@
 // The replay: is there a path of rule steps, none above the limit, that yields a log of actions? It relies on the step's stated answer alone.
 mod ending;
-mod entries;
-mod frame;
-mod memory;
 mod search;
 mod sizes;
-mod words;
 
+use memory::frame;
 use minuska::Check;
 use minuska::ReplayAnswer;
 ghost use mathlib.Core.Path.{_≡_};
@@ -14,7 +11,7 @@ ghost use Prim.Native.Nat.{_+_, _≤_};
 ghost use lib.ListN.{length};
 ghost use Rattle.minuska.specs.Computed.Place.{Accepted};
 ghost use Rattle.minuska.specs.Contract.{ReplayContract};
-ghost use Rattle.replay.specs.Layout.{base};
+ghost use Rattle.memory.specs.Layout.{base};
 ghost use Rattle.replay.specs.Turns.{Room};
 ghost use Rattle.replay.specs.Endings.{SetsUp, AnswerContract};
 
@@ -30,7 +27,7 @@ fn set_up(
     requires { ⌜ (last + (room + 2) ≤ length (now work)) × (last ≡ base room actions) × (room ≤ length (now out)) × (length (now configuration) ≤ room) × (room ≤ 65536) ⌝ }
     ensures { λ _. ⌜ SetsUp room actions (now (configuration .entry)) (now (out .entry)) (now (work .entry)) (now (work .exit)) ⌝ }
 {
-    words::copy_in(work, last, &out[..room]);
+    words::copy(work, last, &out[..room]);
     memory::forget(work, room, actions);
     frame::enter(work, 0, room, configuration);
 }
@@ -55,8 +52,9 @@ fn answer(
     let actions = log.len();
     let last = frame::base_at(room, actions);
     if actions == 0 {
-        words::copy_in(out, 0, configuration);
-        words::clear(work, last + (room + 2));
+        words::copy(out, 0, configuration);
+        let end = last + (room + 2);
+        words::clear(&mut work[..end]);
         return ReplayAnswer::Reproduced;
     }
     set_up(work, out, last, actions, room, configuration);

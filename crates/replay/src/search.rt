@@ -1,7 +1,6 @@
 // A depth-first search over frames in the work area: frame i holds the configuration after i actions of the log. The last depth needs no frame, since what
 // stands there is the answer: each successor is made at the start of out, and copied into the next frame.
-use crate::frame;
-use crate::memory;
+use memory::frame;
 use minuska::StepAnswer;
 ghost use mathlib.Core.Path.{_≡_};
 ghost use mathlib.Core.Bool.{false};
@@ -10,7 +9,7 @@ ghost use lib.ListN.{length, getD};
 ghost use Rattle.minuska.specs.Computed.Step.{order};
 ghost use Rattle.minuska.specs.Computed.Place.{Indexed};
 ghost use Rattle.replay.specs.Reading.{tableOf};
-ghost use Rattle.replay.specs.Layout.{base, wordsOf, Spare};
+ghost use Rattle.memory.specs.Layout.{base, wordsOf, Spare};
 ghost use Rattle.replay.specs.Turns.{positionAt, Framed, Sound, MemoryOf, Room, Sought, TryContract, MadeWithin, Descends, Settles, TurnContract, SearchContract};
 
 // What one turn comes to.
@@ -71,8 +70,7 @@ fn try_at<'a>(
     step::apply_rule(table, index, configuration, rule, &mut out[..room])
 }
 
-// A successor, the first `words` words of out: it is entered, unless it is known or the last. A table is used where five actions are left or more: below that a
-// search is too short to pay for it.
+// A successor, the first `words` words of out: it is entered, unless it is known or the last.
 fn descend(
     words: usize,
     actions: usize,
@@ -89,7 +87,7 @@ fn descend(
     let next = depth + 1;
     if next < actions {
         let at = frame::base_at(room, next);
-        let tabled = depth + 5 < actions;
+        let tabled = memory::pays(actions - next);
         if memory::known(work, at, room, tabled, &out[..words]) {
             return Turned::On(depth);
         }

@@ -11,11 +11,12 @@ use Rattle.minuska.specs.declared.Refusal.{Refusal}
 use Rattle.minuska.specs.Term.{single}
 use Rattle.minuska.specs.Word.{encode}
 use Rattle.minuska.specs.Answer.{Outcome, refused, RunResult}
-use Rattle.minuska.specs.Slice.{write, writeZeros, writeFilled, runAnswer, runOut, runSpare}
+use Rattle.minuska.specs.Slice.{write, writeFilled, runAnswer, runOut, runSpare}
 use Rattle.minuska.specs.Contract.{RunContract}
 use Rattle.minuska.specs.Computed.Outcome.{runOutcome}
 use Rattle.minuska.proofs.ContractLaw.{run-contract}
 use Rattle.minuska.proofs.ShutLaw.{run-out-refused, run-out-gives, run-spare-refused, run-spare-gives}
+use Rattle.words.proofs.CopyLaw.{same-zeros}
 use Rattle.run.specs.declared.Ended.{Ended}
 use Rattle.run.specs.Turning.{chosen}
 use Rattle.run.specs.Ending.{Ends, Finishes}
@@ -26,13 +27,6 @@ filled-length n xs h = length-append xs (replicate (n - length xs) (pos 0)) ∙ 
 
 same-filled : (n : ℕ) (xs old old′ : List ℤ) → length xs ≤ n → drop n old′ ≡ drop n old → writeFilled n xs old′ ≡ writeFilled n xs old
 same-filled n xs old old′ h e = rw (filled-length n xs h, e)
-
-same-zeros : (n : ℕ) (old old′ : List ℤ) → drop n old′ ≡ drop n old → writeZeros n old′ ≡ writeZeros n old
-same-zeros n old old′ e = rw (length-replicate n (pos 0), e)
-
--- zeros over the first n words
-pub zeros-front : (n : ℕ) (old zs : List ℤ) → n ≤ length old → zs ≡ replicate (length (take n old)) (pos 0) → zs ++ drop n old ≡ writeZeros n old
-zeros-front n old zs h e = rw (e, length-take-le n old h, length-replicate n (pos 0))
 
 -- words at the start, then zeros from their end up to n
 module _ (n e : ℕ) (xs old : List ℤ) (l : length xs ≡ e) (h : e ≤ n) (w : n ≤ length old) where

@@ -1,4 +1,3 @@
-pub mod WritingLaw
 pub mod RefusingLaw
 pub mod TurningLaw
 pub mod JudgedLaw

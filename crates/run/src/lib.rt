@@ -5,8 +5,7 @@ use minuska::RunAnswer;
 use minuska::StepAnswer;
 ghost use mathlib.Core.Path.{_≡_};
 ghost use Prim.Native.Nat.{_*_, _/_, _≤_};
-ghost use lib.ListN.{length, take, replicate};
-ghost use lib.IntN.{pos};
+ghost use lib.ListN.{length, take};
 ghost use Rattle.minuska.specs.Contract.{RunContract};
 ghost use Rattle.minuska.specs.Slice.{write};
 ghost use Rattle.minuska.specs.Computed.Outcome.{stepOutcome};
@@ -33,29 +32,6 @@ struct Ended {
     answer: RunAnswer,
     side: Side,
     nodes: usize,
-}
-
-// Every word becomes 0.
-fn clear(words: &mut [i64])
-    ensures { λ _. ⌜ now (words .exit) ≡ replicate (length (now (words .entry))) (pos 0) ⌝ }
-{
-    let mut i = 0;
-    while i < words.len() {
-        words[i] = 0;
-        i += 1;
-    }
-}
-
-// Words are copied to the start of a slice.
-fn copy(from: &[i64], to: &mut [i64])
-    requires { ⌜ length (now from) ≤ length (now to) ⌝ }
-    ensures { λ _. ⌜ now (to .exit) ≡ write (now (from .entry)) (now (to .entry)) ⌝ }
-{
-    let mut at = 0;
-    while at < from.len() {
-        to[at] = from[at];
-        at += 1;
-    }
 }
 
 // The side that a step from this one writes.
@@ -175,9 +151,9 @@ fn bring(side: Side, nodes: usize, configuration: &[i64], out: &mut [i64], spare
 {
     let end = 2 * nodes;
     match side {
-        Side::Initial => copy(&configuration[..end], out),
+        Side::Initial => words::copy(out, 0, &configuration[..end]),
         Side::Out => {}
-        Side::Spare => copy(&spare[..end], out),
+        Side::Spare => words::copy(out, 0, &spare[..end]),
     }
 }
 
@@ -195,8 +171,8 @@ fn finish(
 {
     bring(side, nodes, configuration, out, spare);
     let end = 2 * nodes;
-    clear(&mut out[end..words]);
-    clear(&mut spare[..words]);
+    words::clear(&mut out[end..words]);
+    words::clear(&mut spare[..words]);
 }
 
 // Refusals 3, 4 and 5, in order, of a configuration with so many nodes.

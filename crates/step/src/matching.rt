@@ -56,7 +56,7 @@ fn turn_at(
     if configuration.len() < e {
         return Turn::Misfit;
     }
-    let same = term::same_words(&configuration[from..to], &configuration[j..e]);
+    let same = words::same(&configuration[from..to], &configuration[j..e]);
     if same { Turn::Again(e) } else { Turn::Misfit }
 }
 

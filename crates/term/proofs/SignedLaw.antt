@@ -1,6 +1,6 @@
--- Words as the code sees them: stored as bits, compared, and cast to `usize`. And a test that decides a fact.
+-- Words as the code sees them: stored as bits, compared, and cast to `usize`.
 use mathlib.Core.Path.{_≡_, refl, sym, _∙_, ap, ap₂, subst⁻¹}
-use mathlib.Core.Bool.{Bool, true, false, true≢false}
+use mathlib.Core.Bool.{Bool, false, true≢false}
 use Prim.Native.Nat.{ℕ, _≤_}
 use native.Mathlib.Nat.{lt-of-le-of-lt}
 use lib.Dec.{T, lit<}
@@ -10,7 +10,6 @@ use mir.Syntax.{w64}
 use mir.Val.{Fits, SFits, ofZ, toZ}
 use mir.ValLaws.{toZ-ofZ}
 use borrow.Author.Tests.{ltb-false}
-use Rattle.minuska.specs.Computed.Place.{Decides}
 
 -- a word that is not below a bound is a number, and its cast gives that number
 pub record Natural (z : ℤ) (bound : ℕ) : Type 0 where
@@ -43,9 +42,3 @@ same-bits a b f g e = sym (toZ-ofZ w64 a f) ∙ (ap (toZ w64) e ∙ toZ-ofZ w64 
 -- a word with the bits of a number
 pub with-bits : (z : ℤ) (n : ℕ) → SFits w64 z → ofZ w64 z ≡ n → z ≡ toZ w64 n
 with-bits z n f e = sym (toZ-ofZ w64 z f) ∙ ap (toZ w64) e
-
-pub decided : {P : Type 0} → P → Decides true P
-decided p = record { yes = λ e. p; no = λ e q. true≢false e }
-
-pub denied : {P : Type 0} → (P → ⊥) → Decides false P
-denied n = record { yes = λ e. absurd (true≢false (sym e)); no = λ e q. n q }

@@ -3,7 +3,7 @@ ghost use mathlib.Core.Path.{_≡_};
 ghost use Prim.Native.Nat.{_<_};
 ghost use lib.IntN.{pos};
 ghost use lib.ListN.{length, getD};
-ghost use Rattle.minuska.specs.Computed.Place.{GroundAt, GroundEnds, Decides};
+ghost use Rattle.minuska.specs.Computed.Place.{GroundAt, GroundEnds};
 ghost use Rattle.minuska.specs.Contract.{CheckConfigurationContract, SubtermContract};
 ghost use Rattle.term.specs.TermAt.{TermAt, TermEnds, NodeWords};
 ghost use Rattle.term.specs.TermEnd.{arityOf, childrenByTag, childCountOf};
@@ -33,25 +33,6 @@ pub fn word(s: &[i64], i: usize) -> i64
     ensures { λ r. ⌜ r ≡ getD (now (s .entry)) i (pos 0) ⌝ }
 {
     s[i]
-}
-
-// Whether two slices hold the same words.
-pub fn same_words(a: &[i64], b: &[i64]) -> bool
-    ensures { λ r. ⌜ Decides r (now (a .entry) ≡ now (b .entry)) ⌝ }
-{
-    if a.len() != b.len() {
-        return false;
-    }
-    let mut i = 0;
-    while i < a.len() {
-        let p = word(a, i);
-        let q = word(b, i);
-        if p != q {
-            return false;
-        }
-        i += 1;
-    }
-    true
 }
 
 // The arity of a function: a hexadecimal digit for each, the last one for code 0.

@@ -8,7 +8,7 @@ ghost use Rattle.minuska.specs.Computed.Place.{Decides};
 ghost use Rattle.value.specs.Root.{HeadIn, HeadIs, tagOf, datumOf};
 ghost use Rattle.value.specs.Value.{valueWords, partWords, ownWords, Within, sizeOf, Ordered};
 ghost use Rattle.value.specs.Evaluate.{ExpressionIn, EvaluateContract, CallIn, LeafIn, RootContract, ArgumentIn, ArgumentContract, ConditionIn, ConditionContract};
-ghost use Rattle.value.specs.Copy.{written, PutContract};
+ghost use Rattle.value.specs.Copy.{PutContract};
 
 pub mod builtin; // builtin.rt: the fifteen functions
 
@@ -247,7 +247,7 @@ fn same<'a>(table: &'a [i64], configuration: &'a [i64], a: Value, b: Value) -> b
 {
     let x = own_words(a);
     let y = own_words(b);
-    term::same_words(
+    words::same(
         words_of(table, configuration, &x, a),
         words_of(table, configuration, &y, b),
     )
@@ -298,21 +298,8 @@ pub fn put<'a>(
         }
         _ => {
             let words = part(table, configuration, v);
-            copy_words(out, at, words);
+            words::copy(out, at, words);
             at + words.len()
         }
-    }
-}
-
-// Words are written from a place on; the words before and behind them keep.
-pub fn copy_words(out: &mut [i64], at: usize, src: &[i64])
-    requires { ⌜ at + length (now src) ≤ length (now out) ⌝ }
-    ensures { λ r. ⌜ now (out .exit) ≡ written (now (out .entry)) at (now (src .entry)) ⌝ }
-{
-    let mut i = 0;
-    while i < src.len() {
-        let w = term::word(src, i);
-        out[at + i] = w;
-        i += 1;
     }
 }

@@ -1,11 +1,11 @@
 -- `answer` meets its contract: it says and leaves what minuska's replay says.
-use mathlib.Core.Path.{_≡_, ap, _∙_}
-use mathlib.Core.List.{List}
-use Prim.Native.Nat.{ℕ, _+_, _<_}
+use mathlib.Core.Path.{_≡_, sym, ap, _∙_}
+use Prim.Native.Nat.{ℕ, _+_, _≤_, _<_}
 use native.Mathlib.Omega.{arith}
-use lib.IntN.{ℤ}
 use lib.ListN.{length}
+use lib.Seq.{length-take-le}
 use Rattle.minuska.specs.Slice.{writeZeros}
+use Rattle.words.proofs.CopyLaw.{zeros-front}
 use Rattle.replay.specs.Endings.{SetsUp}
 use Rattle.replay.proofs.EndLaw.{answer-empty, opened-room, opened-sound, opened-memory, end-within, end-room, answered}
 use borrow.Author.Needs.{needs}
@@ -15,17 +15,30 @@ use Rattle.replay.proofs.answer.Tie as tie
 some : (e : tie.Else1) → 0 < length (e .before .before .before .before .args .log .now)
 some e = omega (arith, e .if1 .left)
 
+-- the work area has the words that are cleared
+whole : (b : tie.After-base-at) → b .base-at .result + (b .before .before .before .args .room + 2) ≤ length (b .before .before .before .args .work .now)
+whole b = omega (arith, b .base-at .ensures, b .before .before .before .pre .0 .work-fits)
+
 base-at-requires : tie.Need-base-at-requires
 base-at-requires c κs = search needs
 
-copy-in-requires : tie.Need-copy-in-requires
-copy-in-requires c κs = search needs
+copy-requires : tie.Need-copy-requires
+copy-requires c κs = search needs
 
-add-clear : tie.Need-add-clear
-add-clear c = search needs
+add-end : tie.Need-add-end
+add-end c = search needs
 
-add-clear-2 : tie.Need-add-clear-2
-add-clear-2 c = search needs
+add-end-2 : tie.Need-add-end-2
+add-end-2 c = search needs
+
+slice-relend-prefix-clear : tie.Need-slice-relend-prefix-clear
+slice-relend-prefix-clear c = search needs
+
+slice-aggregate-clear : tie.Need-slice-aggregate-clear
+slice-aggregate-clear c =
+    let b = c .before .before .before .before .before in
+    let s = b .before .before .before in
+    sym (length-take-le (b .base-at .result + (s .args .room + 2)) (s .args .work .now) (whole b))
 
 clear-requires : tie.Need-clear-requires
 clear-requires c κs = search needs
@@ -41,8 +54,8 @@ returns c =
     let b = c .before .before .before .before .before .before .before in
     let s = b .before .before .before in
     let a = s .args in
-    answer-empty (a .table .now) (a .configuration .now) (a .log .now) (a .room) (a .out .now) (a .choices .now) (a .work .now) _ _ (s .pre .1 .1) (c .before .before .before .before .before .before .if1 .taken) (c .before .before .before .before .copy-in .ensures)
-    (c .before .clear .ensures ∙ ap (λ (at : ℕ). writeZeros (at + (a .room + 2)) (a .work .now)) (b .base-at .ensures))
+    answer-empty (a .table .now) (a .configuration .now) (a .log .now) (a .room) (a .out .now) (a .choices .now) (a .work .now) _ _ (s .pre .1 .1) (c .before .before .before .before .before .before .if1 .taken) (c .before .before .before .before .copy .ensures)
+    (zeros-front (b .base-at .result + (a .room + 2)) (a .work .now) _ (whole b) (c .before .clear .ensures) ∙ ap (λ (at : ℕ). writeZeros (at + (a .room + 2)) (a .work .now)) (b .base-at .ensures))
 
 set-up-requires : tie.Need-set-up-requires
 set-up-requires c κs = search needs
@@ -104,9 +117,11 @@ answer-spec =
     tie.close
     (tie.spec
     base-at-requires
-    copy-in-requires
-    add-clear
-    add-clear-2
+    copy-requires
+    add-end
+    add-end-2
+    slice-relend-prefix-clear
+    slice-aggregate-clear
     clear-requires
     same-length
     same-length-2

@@ -6,16 +6,16 @@ use native.Mathlib.Omega.{arith}
 use lib.IntN.{ℤ}
 use lib.ListN.{take}
 use lib.Seq.{paste, length-take-le}
-use Rattle.replay.specs.Layout.{base, Forgets}
+use Rattle.memory.specs.Layout.{base, Forgets}
 use borrow.Author.Needs.{needs}
 use Rattle.replay.proofs.set_up.Statement.{statement}
 use Rattle.replay.proofs.set_up.Tie as tie
 
-slice-aggregate-copy-in : tie.Need-slice-aggregate-copy-in
-slice-aggregate-copy-in c = sym (length-take-le (c .before .before .args .room) (c .before .before .args .out .now) (c .before .before .pre .2))
+slice-aggregate-copy : tie.Need-slice-aggregate-copy
+slice-aggregate-copy c = sym (length-take-le (c .before .before .args .room) (c .before .before .args .out .now) (c .before .before .pre .2))
 
-copy-in-requires : tie.Need-copy-in-requires
-copy-in-requires c κs = omega (arith, length-take-le (c .before .before .args .room) (c .before .before .args .out .now) (c .before .before .pre .2))
+copy-requires : tie.Need-copy-requires
+copy-requires c κs = omega (arith, length-take-le (c .before .before .args .room) (c .before .before .args .out .now) (c .before .before .pre .2))
 
 forget-requires : tie.Need-forget-requires
 forget-requires c κs = search needs
@@ -32,8 +32,8 @@ returns c =
     let a = s .args in
     let kept : List ℤ = take (a .room) (a .out .now) in
     let f = c .before .before .before .before .forget in
-    let e : c .before .before .before .before .before .before .before .copy-in .last .0 ≡ paste (a .work .now) (base (a .room) (a .actions)) kept (a .room) =
-    c .before .before .before .before .before .before .before .copy-in .ensures ∙ ap (paste (a .work .now) (a .last) kept) (length-take-le (a .room) (a .out .now) (s .pre .2))
+    let e : c .before .before .before .before .before .before .before .copy .last .0 ≡ paste (a .work .now) (base (a .room) (a .actions)) kept (a .room) =
+    c .before .before .before .before .before .before .before .copy .ensures ∙ ap (paste (a .work .now) (a .last) kept) (length-take-le (a .room) (a .out .now) (s .pre .2))
     ∙ ap (λ (at : ℕ). paste (a .work .now) at kept (a .room)) (s .pre .1) in
     record { cleared = f .last .0; forgets = subst (λ (w : List ℤ). Forgets (a .room) (a .actions) w (f .last .0)) e (f .ensures); is = c .before .enter .ensures }
 
@@ -41,8 +41,8 @@ pub set-up-spec : {M : Type 1} → statement M
 set-up-spec =
     tie.close
     (tie.spec
-    slice-aggregate-copy-in
-    copy-in-requires
+    slice-aggregate-copy
+    copy-requires
     forget-requires
     enter-requires
     same-length

@@ -5,7 +5,8 @@ use lib.ListN.{take, length-take}
 use lib.Seq.{length-take-le}
 use borrow.Author.Needs.{needs}
 use Rattle.run.specs.Turning.{chosen}
-use Rattle.run.proofs.EndingLaw.{zeros-behind, zeros-front}
+use Rattle.words.proofs.CopyLaw.{zeros-front}
+use Rattle.run.proofs.EndingLaw.{zeros-behind}
 use Rattle.run.proofs.finish.Statement.{statement}
 use Rattle.run.proofs.finish.Tie as tie
 

@@ -13,7 +13,7 @@ use Rattle.value.specs.Value.{valueWords, sizeOf}
 use Rattle.value.specs.Copy.{written}
 use Rattle.value.specs.declared.Value.{Value}
 use Rattle.value.proofs.WordsLaw.{part-is, size-is}
-use Rattle.value.proofs.CopyLaw.{written-two}
+use Rattle.value.proofs.CopyLaw.{pasted, written-two}
 use Rattle.value.proofs.put.Statement.{statement}
 use Rattle.value.proofs.put.Tie as tie
 
@@ -49,8 +49,8 @@ add-result c = let h = room c in omega arith
 part-requires : tie.Need-part-requires
 part-requires c κs = c .before .pre .0
 
-copy-words-requires : tie.Need-copy-words-requires
-copy-words-requires c κs =
+copy-requires : tie.Need-copy-requires
+copy-requires c κs =
     let s = c .before .before .before in
     let h = s .pre .1 in
     let k = ap length (the-words (c .before)) ∙ size-is _ _ (s .args .v) (s .pre .0) in
@@ -77,7 +77,7 @@ returns-2 c =
     let s = c .before .before .before .before .before in
     let w = the-words (c .before .before .before) in
     record {
-      leaves = c .before .copy-words .ensures ∙ ap (written (now (s .args .out)) (s .args .at)) w;
+      leaves = c .before .copy .ensures ∙ pasted _ _ _ _ refl ∙ ap (written (now (s .args .out)) (s .args .at)) w;
       next = ap (λ (xs : List ℤ). s .args .at + length xs) w;
     }
 
@@ -93,7 +93,7 @@ put-spec =
     slice-set-from-datum
     add-result
     part-requires
-    copy-words-requires
+    copy-requires
     add-result-2
     same-length
     returns

@@ -20,11 +20,11 @@ slice-aggregate-words-of-2 c = search needs
 words-of-requires-2 : tie.Need-words-of-requires-2
 words-of-requires-2 c κs = search needs
 
-same-words-requires : tie.Need-same-words-requires
-same-words-requires c κs = search needs
+same-requires : tie.Need-same-requires
+same-requires c κs = search needs
 
 returns : tie.Need-returns
-returns c = rw (← c .before .before .before .words-of .ensures, ← c .before .words-of2 .ensures) (c .same-words .ensures)
+returns c = rw (← c .before .before .before .words-of .ensures, ← c .before .words-of2 .ensures) (c .same .ensures)
 
 pub same-spec : {M : Type 1} → statement M
 same-spec =
@@ -36,5 +36,5 @@ same-spec =
     words-of-requires
     slice-aggregate-words-of-2
     words-of-requires-2
-    same-words-requires
+    same-requires
     returns)

@@ -6,7 +6,7 @@ use native.Mathlib.Omega.{arith}
 use lib.IntN.{ℤ}
 use Rattle.replay.specs.declared.search.Found.{Found}
 use Rattle.replay.specs.declared.search.Found.the-variants.{Path}
-use Rattle.replay.specs.Layout.{base}
+use Rattle.memory.specs.Layout.{base}
 use Rattle.replay.specs.Turns.{Begun}
 use Rattle.replay.specs.Endings.{FoundWithin}
 use borrow.Author.Needs.{needs}

@@ -1,11 +1,12 @@
 -- `ending::give_back` meets its contract.
-use mathlib.Core.Path.{_≡_, ap, ap₂, _∙_}
+use mathlib.Core.Path.{_≡_, sym, ap, ap₂, _∙_}
 use mathlib.Core.List.{List, _++_, append-assoc}
 use Prim.Native.Nat.{ℕ, _+_, _-_, _≤_}
 use native.Mathlib.Omega.{arith}
 use lib.IntN.{ℤ}
 use lib.ListN.{length, take, drop, length-drop}
 use lib.Seq.{paste, length-take-le, take-length}
+use Rattle.words.proofs.CopyLaw.{zeros-front}
 use Rattle.replay.specs.Endings.{restored}
 use borrow.Author.Needs.{needs}
 use Rattle.replay.proofs.ending.give_back.Statement.{statement}
@@ -29,26 +30,34 @@ add-from c = search needs
 add-to : tie.Need-add-to
 add-to c = search needs
 
-mul-copy-in : tie.Need-mul-copy-in
-mul-copy-in c = search needs
+mul-copy : tie.Need-mul-copy
+mul-copy c = search needs
 
-sub-copy-in : tie.Need-sub-copy-in
-sub-copy-in c = search needs
+sub-copy : tie.Need-sub-copy
+sub-copy c = search needs
 
-part-copy-in-start : tie.Need-part-copy-in-start
-part-copy-in-start c = search needs
+part-copy-start : tie.Need-part-copy-start
+part-copy-start c = search needs
 
-part-copy-in-end : tie.Need-part-copy-in-end
-part-copy-in-end c = search needs
+part-copy-end : tie.Need-part-copy-end
+part-copy-end c = search needs
 
-copy-in-requires : tie.Need-copy-in-requires
-copy-in-requires c κs = search needs
+copy-requires : tie.Need-copy-requires
+copy-requires c κs = search needs
 
-add-clear : tie.Need-add-clear
-add-clear c = search needs
+add-end : tie.Need-add-end
+add-end c = search needs
 
-add-clear-2 : tie.Need-add-clear-2
-add-clear-2 c = search needs
+add-end-2 : tie.Need-add-end-2
+add-end-2 c = search needs
+
+slice-relend-prefix-clear : tie.Need-slice-relend-prefix-clear
+slice-relend-prefix-clear c = search needs
+
+slice-aggregate-clear : tie.Need-slice-aggregate-clear
+slice-aggregate-clear c =
+    let s = c .before .before .before .before .before .before in
+    sym (length-take-le (s .args .at + (s .args .room + 2)) (s .args .work .now) (s .pre .0))
 
 clear-requires : tie.Need-clear-requires
 clear-requires c κs = search needs
@@ -64,7 +73,7 @@ returns c =
     let q = c .before .before .before .before in
     let s = q .before .before .before .before in
     let a = s .args in
-    (q .copy-in .ensures ∙ restore-is (a .room) (a .words) (a .at) (a .out .now) (a .work .now) (s .pre .2) (omega (arith, s .pre)), c .before .clear .ensures)
+    (q .copy .ensures ∙ restore-is (a .room) (a .words) (a .at) (a .out .now) (a .work .now) (s .pre .2) (omega (arith, s .pre)), zeros-front (a .at + (a .room + 2)) (a .work .now) _ (s .pre .0) (c .before .clear .ensures))
 
 pub give-back-spec : {M : Type 1} → statement M
 give-back-spec =
@@ -72,13 +81,15 @@ give-back-spec =
     (tie.spec
     add-from
     add-to
-    mul-copy-in
-    sub-copy-in
-    part-copy-in-start
-    part-copy-in-end
-    copy-in-requires
-    add-clear
-    add-clear-2
+    mul-copy
+    sub-copy
+    part-copy-start
+    part-copy-end
+    copy-requires
+    add-end
+    add-end-2
+    slice-relend-prefix-clear
+    slice-aggregate-clear
     clear-requires
     same-length
     same-length-2

@@ -10,7 +10,7 @@ use Rattle.replay.specs.Reading.{tableOf}
 use Rattle.replay.specs.Stack.{chosen}
 use Rattle.replay.specs.Turns.{positionAt}
 use Rattle.replay.proofs.StackLaw.{chosen-more}
-use Rattle.replay.proofs.LayoutLaw.{frame-before}
+use Rattle.memory.proofs.LayoutLaw.{frame-before}
 use Rattle.replay.proofs.ending.write_choices.Statement.{statement}
 use Rattle.replay.proofs.ending.write_choices.Tie as tie
 

@@ -5,9 +5,8 @@ use Prim.Native.Nat.{_+_, _≤_}
 use native.Mathlib.Omega.{arith}
 use lib.ListN.{length, take}
 use lib.Seq.{length-take-le}
-use borrow.Author.Tests.{lt-ltb}
-use Rattle.replay.specs.Layout.{base, Spare}
-use Rattle.replay.proofs.LayoutLaw.{frame-before}
+use Rattle.memory.specs.Layout.{base, Spare}
+use Rattle.memory.proofs.LayoutLaw.{frame-before}
 use borrow.Author.Needs.{needs}
 use Rattle.replay.proofs.search.descend.Statement.{statement}
 use Rattle.replay.proofs.search.descend.Tie as tie
@@ -24,18 +23,21 @@ long c = length-take-le (c .before .args .words) (c .before .args .out .now) (c 
 add-next : tie.Need-add-next
 add-next c = search needs
 
-add-tabled : tie.Need-add-tabled
-add-tabled c = search needs
+sub-pays : tie.Need-sub-pays
+sub-pays c = search needs
+
+pays-requires : tie.Need-pays-requires
+pays-requires c κs = search needs
 
 base-at-requires : tie.Need-base-at-requires
 base-at-requires c κs = (c .before .pre .0 .2, omega (arith, fits c))
 
 slice-aggregate-known : tie.Need-slice-aggregate-known
-slice-aggregate-known c = sym (long (c .before .before .before))
+slice-aggregate-known c = sym (long (c .before .before .before .before))
 
 known-requires : tie.Need-known-requires
 known-requires c κs =
-    let b = c .before .before in
+    let b = c .before .before .before in
     let s = b .before .before in
     let a = s .args in (
       omega (arith, fits (b .before), b .base-at .ensures),
@@ -49,15 +51,15 @@ same-length c = search needs
 
 returns : tie.Need-returns
 returns c =
-    let b = c .before .before .before .before in
+    let b = c .before .before .before .before .before in
     inr (inl (b .before .if1 .taken, refl, refl, rw (b .base-at .ensures) at (c .before .known .ensures (c .if2 .taken))))
 
 slice-aggregate-enter : tie.Need-slice-aggregate-enter
-slice-aggregate-enter c = sym (long (c .before .before .before .before .before .before .before))
+slice-aggregate-enter c = sym (long (c .before .before .before .before .before .before .before .before))
 
 enter-requires : tie.Need-enter-requires
 enter-requires c κs =
-    let b = c .before .before .before .before .before .before in
+    let b = c .before .before .before .before .before .before .before in
     let s = b .before .before in
     let a = s .args in (
       omega (arith, fits (b .before), b .base-at .ensures),
@@ -71,11 +73,9 @@ same-length-2 c = search needs
 
 returns-2 : tie.Need-returns-2
 returns-2 c =
-    let b = c .before .before .before .before .before .before .before .before in
-    let s = b .before .before in
-    let a = s .args in
+    let b = c .before .before .before .before .before .before .before .before .before in
     let e = rw (b .base-at .ensures) at (c .before .enter .ensures) in
-    inl (b .before .if1 .taken, refl, e .0, λ h. e .1 (lt-ltb (a .depth + 5) (a .actions) h))
+    inl (b .before .if1 .taken, refl, e .0, e .1)
 
 returns-3 : tie.Need-returns-3
 returns-3 c = inr (inr (c .if1 .left, refl, refl))
@@ -86,7 +86,8 @@ descend-spec =
     (tie.spec
     add-next
     base-at-requires
-    add-tabled
+    sub-pays
+    pays-requires
     slice-aggregate-known
     known-requires
     same-length

@@ -5,7 +5,7 @@ use native.Mathlib.Omega.{arith}
 use lib.ListN.{length, getD}
 use Rattle.minuska.specs.Computed.Step.{order}
 use Rattle.replay.specs.Reading.{tableOf}
-use Rattle.replay.specs.Layout.{base, wordsOf}
+use Rattle.memory.specs.Layout.{base, wordsOf}
 use Rattle.replay.specs.Turns.{TryContract}
 use Rattle.replay.proofs.TurnLaw.{frame-fits, turned, made-within, spare-within}
 use borrow.Author.Needs.{needs}

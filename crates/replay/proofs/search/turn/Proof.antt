@@ -3,7 +3,7 @@ use mathlib.Core.Path.{_≡_}
 use Prim.Native.Nat.{suc, _+_, _-_, _≤_}
 use native.Mathlib.Omega.{arith}
 use lib.ListN.{length, getD}
-use Rattle.replay.specs.Layout.{base}
+use Rattle.memory.specs.Layout.{base}
 use Rattle.replay.specs.Reading.{tableOf}
 use Rattle.replay.specs.Turns.{positionAt, Sought}
 use Rattle.replay.proofs.TurnLaw.{frame-fits, turn-ended, turn-back}
@@ -22,7 +22,7 @@ base-at-requires c κs = (c .before .pre .0 .narrow, omega (arith, fits (c .befo
 position-requires : tie.Need-position-requires
 position-requires c κs =
     let s = c .before .before .before in
-    (omega (arith, fits s, c .before .base-at .ensures), rw (c .before .base-at .ensures) (s .pre .1 .1 .frames (s .args .depth) (omega arith) .counted))
+    omega (arith, fits s, c .before .base-at .ensures)
 
 mul-seek : tie.Need-mul-seek
 mul-seek c = search needs

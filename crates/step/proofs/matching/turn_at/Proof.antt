@@ -136,47 +136,47 @@ returns-6 c =
     let b = c .before .before .before .before in
     turned-long (three b) (number b) (c .before .before .if4 .left) refl (c .if6 .taken)
 
-mul-same-words : tie.Need-mul-same-words
-mul-same-words c =
+mul-same : tie.Need-mul-same
+mul-same c =
     let z = start (c .before .before .before .before) in
     let w = within (c .before .before .before .before) (c .before .before .if4 .left) in
     record { fits = omega (arith, w .0, w .1, z .good .1 .1 .0 .1) }
 
-sub-same-words : tie.Need-sub-same-words
-sub-same-words c = within (c .before .before .before .before) (c .before .before .if4 .left) .0
+sub-same : tie.Need-sub-same
+sub-same c = within (c .before .before .before .before) (c .before .before .if4 .left) .0
 
-part-same-words-start : tie.Need-part-same-words-start
-part-same-words-start c = within (c .before .before .before .before) (c .before .before .if4 .left) .0
+part-same-start : tie.Need-part-same-start
+part-same-start c = within (c .before .before .before .before) (c .before .before .if4 .left) .0
 
-part-same-words-end : tie.Need-part-same-words-end
-part-same-words-end c = within (c .before .before .before .before) (c .before .before .if4 .left) .1
+part-same-end : tie.Need-part-same-end
+part-same-end c = within (c .before .before .before .before) (c .before .before .if4 .left) .1
 
-mul-same-words-2 : tie.Need-mul-same-words-2
-mul-same-words-2 c = search needs
+mul-same-2 : tie.Need-mul-same-2
+mul-same-2 c = search needs
 
-sub-same-words-2 : tie.Need-sub-same-words-2
-sub-same-words-2 c = search needs
+sub-same-2 : tie.Need-sub-same-2
+sub-same-2 c = search needs
 
-part-same-words-start-2 : tie.Need-part-same-words-start-2
-part-same-words-start-2 c = search needs
+part-same-start-2 : tie.Need-part-same-start-2
+part-same-start-2 c = search needs
 
-part-same-words-end-2 : tie.Need-part-same-words-end-2
-part-same-words-end-2 c = search needs
+part-same-end-2 : tie.Need-part-same-end-2
+part-same-end-2 c = search needs
 
-same-words-requires : tie.Need-same-words-requires
-same-words-requires c κs = search needs
+same-requires : tie.Need-same-requires
+same-requires c κs = search needs
 
 returns-7 : tie.Need-returns-7
 returns-7 c =
     let e = c .before .before .before .before in
     let b = e .before .before .before .before in
-    turned-again (three b) (number b) (e .before .before .if4 .left) refl (e .if6 .left) (c .before .same-words .ensures .yes (c .if7 .taken))
+    turned-again (three b) (number b) (e .before .before .if4 .left) refl (e .if6 .left) (c .before .same .ensures .yes (c .if7 .taken))
 
 returns-8 : tie.Need-returns-8
 returns-8 c =
     let e = c .before .before .before .before in
     let b = e .before .before .before .before in
-    turned-differs (three b) (number b) (e .before .before .if4 .left) refl (c .before .same-words .ensures .no (c .if7 .left))
+    turned-differs (three b) (number b) (e .before .before .if4 .left) refl (c .before .same .ensures .no (c .if7 .left))
 
 pub turn-at-spec : {M : Type 1} → statement M
 turn-at-spec =
@@ -203,14 +203,14 @@ turn-at-spec =
     sub-e
     add-e
     returns-6
-    mul-same-words
-    sub-same-words
-    part-same-words-start
-    part-same-words-end
-    mul-same-words-2
-    sub-same-words-2
-    part-same-words-start-2
-    part-same-words-end-2
-    same-words-requires
+    mul-same
+    sub-same
+    part-same-start
+    part-same-end
+    mul-same-2
+    sub-same-2
+    part-same-start-2
+    part-same-end-2
+    same-requires
     returns-7
     returns-8)

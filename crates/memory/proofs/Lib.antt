@@ -1,0 +1,3 @@
+pub mod LayoutLaw
+pub mod MemoryLaw
+pub mod PutLaw

@@ -1,0 +1,3 @@
+pub mod PartLaw
+pub mod CopyLaw
+pub mod DecideLaw
