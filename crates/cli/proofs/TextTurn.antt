@@ -7,6 +7,7 @@ use lib.IntN.{ℤ}
 use lib.ListN.{length}
 use Rattle.minuska.specs.declared.Refusal.{Refusal}
 use Rattle.minuska.specs.Answer.{number}
+use Rattle.minuska.specs.Slice.{replaySays}
 use Rattle.cli.specs.Decimal.{ascii, decimal, wholeText}
 use Rattle.cli.specs.Input.{continued, parted}
 use Rattle.cli.specs.Output.{reproducedText, refusedText}
@@ -18,6 +19,7 @@ behind-it : (old : List ℕ) (t mid : List ℕ) (m : ℕ) (u new : List ℕ) (r 
 behind-it old t mid m u new r p v w = wrote-then old 0 t mid m u new r (omega (arith, v .end)) v w
 
 refused-is : (r : Refusal) → refusedText r ≡ ascii "refused," ++ decimal (number r) ++ ascii "\n"
+unfolding replaySays
 refused-is r = ap (λ (l : List ℕ). ascii "refused," ++ l ++ ascii "\n") (append-nil (decimal (number r)))
 
 pub refused-wrote : (old a b new : List ℕ) (r : Refusal) (n i j k : ℕ) → j ≤ length old → n ≡ number r → Wrote old 0 (ascii "refused,") a i → Wrote a i (decimal n) b j → Wrote b j (ascii "\n") new k → i ≤ length old

@@ -107,7 +107,7 @@ counted-in-range (gives x) e f = ended-in-range (x .steps) (x .ending) (f x refl
 module _ {ws cs : List ℤ} {budget limit : ℕ} {out spare out′ spare′ : List ℤ} {r : RunAnswer} where
   pub run-in-range : RunContract ws cs budget limit out spare out′ spare′ r → RunInRange r
   run-in-range c =
-      subst⁻¹ RunInRange (c .answer) (counted-in-range (c .outcome) (size-numbers ws cs limit (maxActions < length log) (ReplayShort limit log (length out) (length choices) (length work)) (c .outcome) (c .refuses)) steps)
+      subst⁻¹ RunInRange (c .answer) (counted-in-range (c .outcome) (size-numbers ws cs limit (maxSteps < budget) (RunShort limit (length out) (length spare)) (c .outcome) (c .refuses)) steps)
     where
       steps : (x : RunResult) → c .outcome ≡ gives x → x .steps ≤ maxSteps
       steps x e =

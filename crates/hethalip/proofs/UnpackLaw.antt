@@ -13,6 +13,7 @@ use Rattle.minuska.specs.declared.RunAnswer.the-variants as R
 use Rattle.minuska.specs.declared.ReplayAnswer.{ReplayAnswer}
 use Rattle.minuska.specs.declared.ReplayAnswer.the-variants as P
 use Rattle.minuska.specs.Answer.{number}
+use Rattle.minuska.specs.Slice.{checkSays, stepSays, runSays, replaySays}
 use Rattle.hethalip.specs.Pack.{packCheck, packStep, packRun, packReplay}
 use Rattle.hethalip.specs.Range.{CheckInRange, StepInRange, RunInRange, ReplayInRange}
 use Rattle.hethalip.specs.Unpack.{Lossless, unpackCheck, unpackStep, unpackRun, unpackReplay}
