@@ -24,7 +24,7 @@ use Rattle.minuska.specs.Computed.Outcome.{checked, tableCheck, configurationCh
 use Rattle.minuska.specs.Contract.{CheckTableContract, CheckConfigurationContract, StepContract, StepByRuleContract, RunContract, ReplayContract}
 use Rattle.minuska.proofs.Good.{good}
 use Rattle.minuska.proofs.OrderLaw.{named-below}
-use Rattle.minuska.proofs.PositionLaw.{few-rules}
+use Rattle.minuska.proofs.Bridge.PositionLaw.{few-rules}
 use Rattle.minuska.proofs.StepLaw.{rule-okay}
 use Rattle.minuska.proofs.RefusalLaw.{NumberWithin, row-failed, words-read, early-number, size-numbers}
 use Rattle.hethalip.specs.Range.{CheckInRange, StepInRange, RunInRange, ReplayInRange}

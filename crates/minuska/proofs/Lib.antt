@@ -23,15 +23,7 @@ pub mod LabelLaw
 pub mod KeepLaw
 pub mod GroundLaw
 pub mod RangeLaw
-pub mod WalkLaw
-pub mod WriteLaw
-pub mod ItemLaw
 pub mod MarkedLaw
-pub mod AppendedLaw
-pub mod PlaceLaw
-pub mod IndexLaw
-pub mod AcceptedLaw
-pub mod PositionLaw
-pub mod PartLaw
 pub mod SubtermLaw
-pub mod ReadLaw
+-- Laws for the code above: what stands where in a slice of words.
+pub mod Bridge

@@ -15,7 +15,7 @@ use Rattle.minuska.specs.Rule.{Table, maxNodes, maxSteps, maxActions, Is
 use Rattle.minuska.specs.Answer.{Refusal, number, BadTable, BadConfiguration, Row, Outcome, refused, gives}
 use Rattle.minuska.specs.Claim.{FirstGiven, tableRow, configurationRow, wordRows, LimitOutside, sizeRows, stepRows, RunShort, runRows, workWords, ReplayShort, replayRows}
 use Rattle.minuska.specs.Computed.Read.{readTable, readConfiguration}
-use Rattle.minuska.specs.Computed.Place.{Decides}
+use Rattle.minuska.specs.Bridge.Place.{Decides}
 use Rattle.minuska.specs.Computed.Step.{stepByRule, step}
 use Rattle.minuska.specs.Computed.Run.{run}
 use Rattle.minuska.specs.Computed.Replay.{replay}

@@ -16,14 +16,14 @@ use Rattle.minuska.specs.Term.{Label, Forest, nil, node, Term, single, t
 use Rattle.minuska.specs.Word.{tagWord, datumWord, ok, encode}
 use Rattle.minuska.specs.Rule.{IsConfiguration}
 use Rattle.minuska.specs.Contract.{SubtermContract}
-use Rattle.minuska.specs.Computed.Place.{Stands}
+use Rattle.minuska.specs.Bridge.Place.{Stands}
 use Rattle.minuska.specs.Computed.Read.{readConfiguration}
 use Rattle.minuska.specs.Computed.Outcome.{termWords, subtermWords}
 use Rattle.minuska.proofs.Tests.{and-left, and-right, and-both}
 use Rattle.minuska.proofs.WordLaw.{okay, okay-all, encode-length}
 use Rattle.minuska.proofs.ConfigurationLaw.{read-configuration-iff}
-use Rattle.minuska.proofs.PartLaw.{configuration-good}
-use Rattle.minuska.proofs.AcceptedLaw.{configuration-length}
+use Rattle.minuska.proofs.Bridge.PartLaw.{configuration-good}
+use Rattle.minuska.proofs.Bridge.AcceptedLaw.{configuration-length}
 
 -- ---- in a list of terms
 -- what stands before the subterm's words and behind them; and the subterm keeps what every node of the list has

@@ -5,5 +5,3 @@ pub mod Step
 pub mod Run
 pub mod Replay
 pub mod Outcome
-pub mod Walk
-pub mod Place

@@ -15,5 +15,7 @@ pub mod Subterm
 pub mod Marked
 -- The same, computed: shown by `proofs/` to be what the files above say.
 pub mod Computed
+-- Bridges to code: what stands where in a slice of words. No part of the meaning.
+pub mod Bridge
 -- What each public routine promises, a record each.
 pub mod Contract

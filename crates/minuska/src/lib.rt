@@ -60,3 +60,9 @@ pub enum ReplayAnswer {
     NotReproduced,
     Refused(Refusal),
 }
+
+// How many numbers the index of a table has, and the index: where the parts of its rules stand (specs/Computed/Place). A table's check fills it; every routine on
+// checked words is lent it.
+pub const INDEX_LEN: usize = 1024;
+
+pub type Index = [usize; INDEX_LEN];

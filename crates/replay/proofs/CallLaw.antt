@@ -27,9 +27,9 @@ use Rattle.minuska.proofs.OutcomeLaw.{on-words, passed}
 use Rattle.minuska.proofs.RefusalLaw.{row-holds, row-passed, replay-refuses}
 use Rattle.minuska.proofs.ContractLaw.{replay-contract}
 use Rattle.minuska.proofs.ShutLaw.{replay-outcome-is, replay-out-refused, replay-choices-refused, replay-work-refused, replay-work-gives}
-use Rattle.minuska.proofs.PositionLaw.{few-rules, order-length}
-use Rattle.minuska.specs.Computed.Place.{RuleCountIs}
-use Rattle.minuska.proofs.AcceptedLaw.{configuration-length, refused-first}
+use Rattle.minuska.proofs.Bridge.PositionLaw.{few-rules, order-length}
+use Rattle.minuska.specs.Bridge.Place.{RuleCountIs}
+use Rattle.minuska.proofs.Bridge.AcceptedLaw.{configuration-length, refused-first}
 use Rattle.step.specs.Accept.{AcceptContract}
 use Rattle.replay.specs.Reading.{tableOf, termOf}
 use Rattle.memory.specs.Layout.{base}

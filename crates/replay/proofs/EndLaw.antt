@@ -16,7 +16,7 @@ use Rattle.minuska.specs.Answer.{gives, ReplayResult, reproduced}
 use Rattle.minuska.specs.Slice.{outLimit, replayAnswer, replayOut, replayChoices, write, writeZeros}
 use Rattle.minuska.specs.Computed.Step.{next, order}
 use Rattle.minuska.specs.Computed.Replay.{replay}
-use Rattle.minuska.specs.Computed.Place.{Accepted}
+use Rattle.minuska.specs.Bridge.Place.{Accepted}
 use Rattle.minuska.specs.declared.ReplayAnswer.{ReplayAnswer}
 use Rattle.minuska.specs.declared.ReplayAnswer.the-variants.{Reproduced}
 use Rattle.minuska.proofs.ShutLaw.{replay-is, replay-out-reproduced, replay-out-exceeded, replay-out-not, replay-choices-reproduced, replay-choices-exceeded, replay-choices-not}

@@ -7,7 +7,7 @@ use native.Mathlib.Omega.{arith}
 use native.Mathlib.Decide.{decLt}
 use lib.IntN.{ℤ, pos}
 use lib.ListN.{length, getD, take}
-use Rattle.minuska.specs.Computed.Place.{Accepted}
+use Rattle.minuska.specs.Bridge.Place.{Accepted}
 use Rattle.replay.specs.Reading.{termOf}
 use Rattle.minuska.specs.Term.{Term}
 use Rattle.memory.specs.Layout.{base, positionOf, wordsOf, Spare, advanced, Enters}

@@ -4,7 +4,7 @@ use mathlib.Core.List.{List, []}
 use lib.IntN.{ℤ}
 use Rattle.minuska.specs.Term.{Term, error, leaf}
 use Rattle.minuska.specs.Rule.{Table, IsTable, IsConfiguration}
-use Rattle.minuska.specs.Computed.Place.{Accepted}
+use Rattle.minuska.specs.Bridge.Place.{Accepted}
 use Rattle.minuska.proofs.TableLaw.{read-table-iff}
 use Rattle.minuska.proofs.ConfigurationLaw.{read-configuration-iff}
 use Rattle.replay.specs.Reading.{valueOr, tableOf, termOf}

@@ -10,9 +10,9 @@ use lib.ListN.{length, getD}
 use Rattle.minuska.specs.Term.{Term}
 use Rattle.minuska.specs.Rule.{Table, IsTable}
 use Rattle.minuska.specs.Computed.Step.{next, order}
-use Rattle.minuska.specs.Computed.Place.{Indexed}
-use Rattle.minuska.proofs.PositionLaw.{element-at, element-there, few-rules, order-names, next-other}
-use Rattle.minuska.specs.Computed.Place.{ActionIs, OrderedIs}
+use Rattle.minuska.specs.Bridge.Place.{Indexed}
+use Rattle.minuska.proofs.Bridge.PositionLaw.{element-at, element-there, few-rules, order-names, next-other}
+use Rattle.minuska.specs.Bridge.Place.{ActionIs, OrderedIs}
 use Rattle.replay.specs.Reading.{tableOf}
 use Rattle.replay.specs.Turns.{Carries, Sought}
 use Rattle.replay.proofs.ReadingLaw.{is-table}

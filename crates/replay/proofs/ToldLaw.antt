@@ -19,7 +19,7 @@ use Rattle.minuska.specs.Slice.{outLimit, stepAnswer, stepOut}
 use Rattle.minuska.specs.Computed.Step.{next}
 use Rattle.minuska.specs.declared.StepAnswer.{StepAnswer}
 use Rattle.minuska.specs.declared.StepAnswer.the-variants as S
-use Rattle.minuska.proofs.AcceptedLaw.{term-length}
+use Rattle.minuska.proofs.Bridge.AcceptedLaw.{term-length}
 use Rattle.minuska.proofs.RefusalLaw.{row-passed}
 use Rattle.minuska.proofs.ReplayLaw.{NextTold, next-told}
 use Rattle.replay.specs.Turns.{Carries, TryContract}

@@ -35,7 +35,7 @@ use Rattle.replay.proofs.RecallLaw as Recall
 use Rattle.memory.proofs.LayoutLaw.{frame-before, advanced-long, advanced-behind}
 use Rattle.words.proofs.PartLaw.{drop-later}
 use Rattle.replay.proofs.FrameLaw.{on-terms, on-top, on-positions, on-position, on-held, on-sound, in-terms, in-positions, in-top, in-held, in-sound, back-held}
-use Rattle.minuska.proofs.AcceptedLaw.{term-length}
+use Rattle.minuska.proofs.Bridge.AcceptedLaw.{term-length}
 use Rattle.replay.proofs.ToldLaw.{limit-words, Tells, tried-tells}
 
 module _ (ws : List ℤ) (index : List ℕ) (rules room : ℕ) (log : List ℕ) (out work : List ℤ) (d : ℕ) (rm : Room ws index rules room log out work) (deep : d < length log) (s : Sound rules room (length log) work d) where

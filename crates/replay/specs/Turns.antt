@@ -13,7 +13,7 @@ use Rattle.minuska.specs.Answer.{ReplayResult, reproduced, exceeded, notReprodu
 use Rattle.minuska.specs.Slice.{outLimit}
 use Rattle.minuska.specs.Contract.{StepByRuleContract}
 use Rattle.minuska.specs.Computed.Step.{next, order}
-use Rattle.minuska.specs.Computed.Place.{Indexed, Accepted}
+use Rattle.minuska.specs.Bridge.Place.{Indexed, Accepted}
 use Rattle.minuska.specs.declared.StepAnswer.{StepAnswer}
 use Rattle.minuska.specs.declared.StepAnswer.the-variants as S
 use Rattle.replay.specs.declared.search.Turned.{Turned}

@@ -1,6 +1,7 @@
 // The search has ended: its answer, in the slices that are lent for it.
 use crate::search::Found;
 use memory::frame;
+use minuska::Index;
 use minuska::Refusal;
 use minuska::ReplayAnswer;
 ghost use mathlib.Core.Path.{_≡_};
@@ -9,7 +10,7 @@ ghost use Prim.Native.Nat.{ℕ, pred, _+_, _≤_, _<_};
 ghost use lib.ListN.{length, getD, drop};
 ghost use Rattle.minuska.specs.Slice.{writeZeros};
 ghost use Rattle.minuska.specs.Computed.Step.{order};
-ghost use Rattle.minuska.specs.Computed.Place.{Indexed};
+ghost use Rattle.minuska.specs.Bridge.Place.{Indexed};
 ghost use Rattle.replay.specs.Reading.{tableOf};
 ghost use Rattle.memory.specs.Layout.{base, positionOf};
 ghost use Rattle.replay.specs.Stack.{chosen};
@@ -17,7 +18,7 @@ ghost use Rattle.replay.specs.Turns.{positionAt, Begun};
 ghost use Rattle.replay.specs.Endings.{restored, FoundWithin, EndContract};
 
 // The rule that the frame at `at` tried last.
-fn choice_at(table: &[i64], index: &[usize; 1024], work: &[i64], at: usize, room: usize) -> u16
+fn choice_at(table: &[i64], index: &Index, work: &[i64], at: usize, room: usize) -> u16
     requires { ⌜ Indexed (now table) (now index) ⌝ }
     requires { ⌜ (at + (room + 2) ≤ length (now work)) × Begun (length (order (tableOf (now table)))) room (now work) at ⌝ }
     ensures { λ r. ⌜ r ≡ getD (order (tableOf (now (table .entry)))) (pred (positionOf room (now (work .entry)) at)) 0 ⌝ }
@@ -30,7 +31,7 @@ fn choice_at(table: &[i64], index: &[usize; 1024], work: &[i64], at: usize, room
 // The rules that led to depth `actions`.
 fn write_choices(
     table: &[i64],
-    index: &[usize; 1024],
+    index: &Index,
     choices: &mut [u16],
     work: &[i64],
     room: usize,
@@ -65,7 +66,7 @@ fn give_back(out: &mut [i64], work: &mut [i64], at: usize, room: usize, words: u
 pub fn conclude(
     found: Found,
     table: &[i64],
-    index: &[usize; 1024],
+    index: &Index,
     actions: usize,
     room: usize,
     out: &mut [i64],

@@ -5,11 +5,13 @@ mod sizes;
 
 use memory::frame;
 use minuska::Check;
+use minuska::INDEX_LEN;
+use minuska::Index;
 use minuska::ReplayAnswer;
 ghost use mathlib.Core.Path.{_≡_};
 ghost use Prim.Native.Nat.{_+_, _≤_};
 ghost use lib.ListN.{length};
-ghost use Rattle.minuska.specs.Computed.Place.{Accepted};
+ghost use Rattle.minuska.specs.Bridge.Place.{Accepted};
 ghost use Rattle.minuska.specs.Contract.{ReplayContract};
 ghost use Rattle.memory.specs.Layout.{base};
 ghost use Rattle.replay.specs.Turns.{Room};
@@ -35,7 +37,7 @@ fn set_up(
 // The replay of checked words, `room` twice the limit, where nothing is refused.
 fn answer(
     table: &[i64],
-    index: &[usize; 1024],
+    index: &Index,
     configuration: &[i64],
     log: &[u16],
     rules: usize,
@@ -74,7 +76,7 @@ pub fn replay(
 ) -> ReplayAnswer
     ensures { λ r. ⌜ ReplayContract (now (table .entry)) (now (configuration .entry)) (now (log .entry)) limit (now (out .entry)) (now (choices .entry)) (now (work .entry)) (now (out .exit)) (now (choices .exit)) (now (work .exit)) r ⌝ }
 {
-    let mut index = [0usize; 1024];
+    let mut index = [0usize; INDEX_LEN];
     let accepted = step::accept(table, configuration, &mut index);
     if let Check::Refused(refusal) = accepted {
         return ReplayAnswer::Refused(refusal);

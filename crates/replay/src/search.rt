@@ -1,13 +1,14 @@
 // A depth-first search over frames in the work area: frame i holds the configuration after i actions of the log. The last depth needs no frame, since what
 // stands there is the answer: each successor is made at the start of out, and copied into the next frame.
 use memory::frame;
+use minuska::Index;
 use minuska::StepAnswer;
 ghost use mathlib.Core.Path.{_≡_};
 ghost use mathlib.Core.Bool.{false};
 ghost use Prim.Native.Nat.{ℕ, _+_, _*_, _≤_, _<_};
 ghost use lib.ListN.{length, getD};
 ghost use Rattle.minuska.specs.Computed.Step.{order};
-ghost use Rattle.minuska.specs.Computed.Place.{Indexed};
+ghost use Rattle.minuska.specs.Bridge.Place.{Indexed};
 ghost use Rattle.replay.specs.Reading.{tableOf};
 ghost use Rattle.memory.specs.Layout.{base, wordsOf, Spare};
 ghost use Rattle.replay.specs.Turns.{positionAt, Framed, Sound, MemoryOf, Room, Sought, TryContract, MadeWithin, Descends, Settles, TurnContract, SearchContract};
@@ -34,7 +35,7 @@ pub enum Found {
 }
 
 // The first position from `from` on whose rule carries the action, `rules` where there is none.
-fn seek(table: &[i64], index: &[usize; 1024], action: u16, rules: usize, from: usize) -> usize
+fn seek(table: &[i64], index: &Index, action: u16, rules: usize, from: usize) -> usize
     requires { ⌜ Indexed (now table) (now index) ⌝ }
     requires { ⌜ (rules ≡ length (order (tableOf (now table)))) × (from ≤ rules) ⌝ }
     ensures { λ r. ⌜ Sought (tableOf (now (table .entry))) rules action from r ⌝ }
@@ -53,7 +54,7 @@ fn seek(table: &[i64], index: &[usize; 1024], action: u16, rules: usize, from: u
 // The rule at a position, tried on the configuration of the frame at `at`; its successor is made in the first `room` words of out.
 fn try_at<'a>(
     table: &'a [i64],
-    index: &[usize; 1024],
+    index: &Index,
     position: usize,
     room: usize,
     at: usize,
@@ -125,7 +126,7 @@ fn settle(
 // The rule at a position, which `seek` has found, is tried at a depth.
 fn go_on(
     table: &[i64],
-    index: &[usize; 1024],
+    index: &Index,
     log: &[u16],
     rules: usize,
     room: usize,
@@ -149,7 +150,7 @@ fn go_on(
 // One turn at a depth: the next rule there that carries the action, or back by one.
 fn turn(
     table: &[i64],
-    index: &[usize; 1024],
+    index: &Index,
     log: &[u16],
     rules: usize,
     room: usize,
@@ -177,7 +178,7 @@ fn turn(
 // The search, from a configuration that is entered at depth 0.
 pub fn find(
     table: &[i64],
-    index: &[usize; 1024],
+    index: &Index,
     log: &[u16],
     rules: usize,
     room: usize,

@@ -21,7 +21,7 @@ use Rattle.minuska.proofs.OutcomeLaw.{on-words}
 use Rattle.minuska.proofs.StepLaw.{step-meets}
 use Rattle.minuska.proofs.KeepLaw.{keeps-configuration}
 use Rattle.minuska.proofs.ShutLaw.{step-outcome-is, step-out-stepped}
-use Rattle.minuska.proofs.AcceptedLaw.{term-length, configuration-length}
+use Rattle.minuska.proofs.Bridge.AcceptedLaw.{term-length, configuration-length}
 use Rattle.run.specs.declared.Side.{Side}
 use Rattle.run.specs.declared.Side.the-variants.{Initial}
 use Rattle.run.specs.declared.Turned.the-variants.{On, End}

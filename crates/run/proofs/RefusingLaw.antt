@@ -19,7 +19,7 @@ use Rattle.minuska.specs.Computed.Run.{run}
 use Rattle.minuska.specs.Computed.Outcome.{tested, sizeTests, limitRefused, runShort, runOutcome, tableCheck, configurationCheck, orSecond}
 use Rattle.minuska.proofs.OutcomeLaw.{on-words}
 use Rattle.minuska.proofs.ShutLaw.{run-outcome-is}
-use Rattle.minuska.proofs.AcceptedLaw.{configuration-length, refused-first}
+use Rattle.minuska.proofs.Bridge.AcceptedLaw.{configuration-length, refused-first}
 use Rattle.run.specs.Refusing.{refusalOf, runRefusal, Allowed}
 
 -- ---- tests

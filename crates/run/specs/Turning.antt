@@ -12,7 +12,7 @@ use Rattle.minuska.specs.declared.RunAnswer.the-variants as R
 use Rattle.minuska.specs.Answer.{Outcome, StepResult}
 use Rattle.minuska.specs.Slice.{stepAnswer, stepOut}
 use Rattle.minuska.specs.Computed.Outcome.{stepOutcome}
-use Rattle.minuska.specs.Computed.Place.{Accepted}
+use Rattle.minuska.specs.Bridge.Place.{Accepted}
 use Rattle.run.specs.declared.Side.{Side}
 use Rattle.run.specs.declared.Side.the-variants.{Initial, Out, Spare}
 use Rattle.run.specs.declared.Turned.{Turned}

@@ -1,5 +1,7 @@
 // The run (document 01): the step repeated, its count held against a budget. Two lent slices take turns: each step reads one and writes the other.
 use minuska::Check;
+use minuska::INDEX_LEN;
+use minuska::Index;
 use minuska::Refusal;
 use minuska::RunAnswer;
 use minuska::StepAnswer;
@@ -9,7 +11,7 @@ ghost use lib.ListN.{length, take};
 ghost use Rattle.minuska.specs.Contract.{RunContract};
 ghost use Rattle.minuska.specs.Slice.{write};
 ghost use Rattle.minuska.specs.Computed.Outcome.{stepOutcome};
-ghost use Rattle.minuska.specs.Computed.Place.{Indexed, Accepted};
+ghost use Rattle.minuska.specs.Bridge.Place.{Indexed, Accepted};
 ghost use Rattle.run.specs.Turning.{chosen, other, StartsWith, StepsInto, Turns, judged};
 ghost use Rattle.run.specs.Refusing.{runRefusal, Allowed};
 ghost use Rattle.run.specs.Ending.{Ends, Finishes};
@@ -48,7 +50,7 @@ fn other_side(side: Side) -> Side
 // The step of the configuration at the start of one slice, written into the first words of another.
 fn step_into<'a>(
     table: &'a [i64],
-    index: &[usize; 1024],
+    index: &Index,
     from: &'a [i64],
     nodes: usize,
     to: &mut [i64],
@@ -64,7 +66,7 @@ fn step_into<'a>(
 // The step of the current configuration, written into the slice whose turn it is.
 fn turn<'a>(
     table: &'a [i64],
-    index: &[usize; 1024],
+    index: &Index,
     configuration: &'a [i64],
     side: Side,
     nodes: usize,
@@ -110,7 +112,7 @@ fn judge(answer: StepAnswer, k: usize, budget: usize) -> Turned
 // The steps, up to the end.
 fn advance<'a>(
     table: &'a [i64],
-    index: &[usize; 1024],
+    index: &Index,
     configuration: &'a [i64],
     budget: usize,
     limit: usize,
@@ -194,7 +196,7 @@ fn refusal(nodes: usize, budget: usize, limit: usize, out: usize, spare: usize) 
 // The run of what no refusal turns back.
 fn run_accepted<'a>(
     table: &'a [i64],
-    index: &[usize; 1024],
+    index: &Index,
     configuration: &'a [i64],
     budget: usize,
     limit: usize,
@@ -222,7 +224,7 @@ pub fn run<'a>(
 ) -> RunAnswer
     ensures { λ r. ⌜ RunContract (now (table .entry)) (now (configuration .entry)) budget limit (now (out .entry)) (now (spare .entry)) (now (out .exit)) (now (spare .exit)) r ⌝ }
 {
-    let mut index = [0usize; 1024];
+    let mut index = [0usize; INDEX_LEN];
     if let Check::Refused(number) = step::accept(table, configuration, &mut index) {
         return RunAnswer::Refused(number);
     }

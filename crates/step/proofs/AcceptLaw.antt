@@ -14,7 +14,7 @@ use Rattle.minuska.specs.Slice.{stepAnswer, stepOut}
 use Rattle.minuska.specs.Computed.Outcome.{tableCheck, configurationCheck, orSecond, ruleOutcome, stepOutcome}
 use Rattle.minuska.specs.Contract.{CheckConfigurationContract, StepByRuleContract, StepContract}
 use Rattle.minuska.proofs.ShutLaw.{rule-outcome-is, step-outcome-is}
-use Rattle.minuska.proofs.AcceptedLaw.{refused-first}
+use Rattle.minuska.proofs.Bridge.AcceptedLaw.{refused-first}
 use Rattle.minuska.proofs.ContractLaw.{step-by-rule-contract, step-contract}
 use Rattle.table.specs.Index.{IndexTableContract}
 use Rattle.step.specs.Accept.{AcceptContract}

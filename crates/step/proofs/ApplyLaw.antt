@@ -24,13 +24,13 @@ use Rattle.minuska.specs.Computed.Match.{tryMatch, unbound}
 use Rattle.minuska.specs.Computed.Value.{value, holdAll}
 use Rattle.minuska.specs.Computed.Step.{successor, successorBy, answered, withNumber, sized, actionIn, stepByRule}
 use Rattle.minuska.specs.Computed.Outcome.{ruleOutcome}
-use Rattle.minuska.specs.Computed.Place.{Indexed, Accepted}
+use Rattle.minuska.specs.Bridge.Place.{Indexed, Accepted}
 use Rattle.minuska.specs.Contract.{StepByRuleContract}
 use Rattle.minuska.proofs.ShutLaw.{step-by-rule-is, rule-outcome-is}
 use Rattle.minuska.proofs.OutcomeLaw.{on-words}
 use Rattle.minuska.proofs.ContractLaw.{step-by-rule-contract}
-use Rattle.minuska.proofs.AcceptedLaw.{term-length}
-use Rattle.minuska.proofs.PositionLaw.{element-there}
+use Rattle.minuska.proofs.Bridge.AcceptedLaw.{term-length}
+use Rattle.minuska.proofs.Bridge.PositionLaw.{element-there}
 use Rattle.minuska.proofs.Good.{good}
 use Rattle.minuska.proofs.StepLaw.{rule-okay}
 use Rattle.minuska.proofs.MatchLaw.{match-sound, matches-binds}

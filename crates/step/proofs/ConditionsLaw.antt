@@ -13,8 +13,8 @@ use Rattle.minuska.specs.Word.{encode}
 use Rattle.minuska.specs.Satisfaction.{Valuation, SideCondition}
 use Rattle.minuska.specs.Rule.{conditionWords}
 use Rattle.minuska.specs.Computed.Value.{holds, holdAll}
-use Rattle.minuska.specs.Computed.Place.{Stands, Binds}
-use Rattle.minuska.proofs.PlaceLaw.{stands-first, stands-second}
+use Rattle.minuska.specs.Bridge.Place.{Stands, Binds}
+use Rattle.minuska.proofs.Bridge.PlaceLaw.{stands-first, stands-second}
 use Rattle.value.specs.declared.Tested.{Tested}
 use Rattle.value.specs.Evaluate.{Placed, HasValue, ConditionAt, ConditionIn, ConditionContract}
 use Rattle.step.specs.Conditions.{Side, Sides, Conditions, SomeConditions, HoldAllIs}

@@ -17,13 +17,13 @@ use Rattle.minuska.specs.declared.StepAnswer.the-variants as S
 use Rattle.minuska.specs.Answer.{Outcome, gives, StepResult, stepped, tooLarge, stuck}
 use Rattle.minuska.specs.Computed.Step.{successorBy, answered, withNumber, sized, actionIn, orNext, firstOf, earliest, order, step}
 use Rattle.minuska.specs.Computed.Outcome.{ruleOutcome, stepOutcome}
-use Rattle.minuska.specs.Computed.Place.{Indexed, Accepted}
+use Rattle.minuska.specs.Bridge.Place.{Indexed, Accepted}
 use Rattle.minuska.specs.Contract.{StepByRuleContract, StepContract}
 use Rattle.minuska.proofs.ShutLaw.{step-is, step-outcome-is}
 use Rattle.minuska.proofs.OutcomeLaw.{on-words}
 use Rattle.minuska.proofs.ContractLaw.{step-contract}
-use Rattle.minuska.proofs.PositionLaw.{element-at, element-there, order-length, order-names}
-use Rattle.minuska.specs.Computed.Place.{RuleCountIs, OrderedIs}
+use Rattle.minuska.proofs.Bridge.PositionLaw.{element-at, element-there, order-length, order-names}
+use Rattle.minuska.specs.Bridge.Place.{RuleCountIs, OrderedIs}
 use Rattle.step.proofs.ApplyLaw.{outcome-by}
 
 -- the order from a position on

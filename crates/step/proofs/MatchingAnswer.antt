@@ -15,9 +15,9 @@ use Rattle.minuska.specs.Word.{ok}
 use Rattle.minuska.specs.Satisfaction.{Valuation}
 use Rattle.minuska.specs.Rule.{maxNodes, IsConfiguration}
 use Rattle.minuska.specs.Computed.Match.{unbound, tryMatch}
-use Rattle.minuska.specs.Computed.Place.{Stands, BoundAt, Binds}
+use Rattle.minuska.specs.Bridge.Place.{Stands, BoundAt, Binds}
 use Rattle.minuska.proofs.Tests.{and-left, and-right}
-use Rattle.minuska.proofs.PlaceLaw.{stands-whole}
+use Rattle.minuska.proofs.Bridge.PlaceLaw.{stands-whole}
 use Rattle.minuska.proofs.MatchLaw.{match-sound, match-complete}
 use Rattle.step.specs.Matching.{IsLeft, Matched, Walk, Walking, Put, After, Turned}
 use Rattle.step.specs.declared.matching.Turn.{Turn}

@@ -18,13 +18,13 @@ use Rattle.minuska.specs.Satisfaction.{Valuation}
 use Rattle.minuska.specs.Rule.{symbolicAt, isSymbolic}
 use Rattle.minuska.specs.Computed.Read.{readNode}
 use Rattle.minuska.specs.Computed.Match.{tryMatch}
-use Rattle.minuska.specs.Computed.Walk.{matchWords}
-use Rattle.minuska.specs.Computed.Place.{Stands, GroundAt, GroundEnds}
+use Rattle.minuska.specs.Bridge.Walk.{matchWords}
+use Rattle.minuska.specs.Bridge.Place.{Stands, GroundAt, GroundEnds}
 use Rattle.minuska.proofs.Tests.{same-whole, whole-same}
 use Rattle.minuska.proofs.WordLaw.{okay, okay-all, head-okay, read-node, appended, encode-appended}
-use Rattle.minuska.proofs.WalkLaw.{flat}
-use Rattle.minuska.proofs.PlaceLaw.{stands-word, stands-head, stands-first, stands-second, stands-unique}
-use Rattle.minuska.proofs.AppendedLaw.{first-words, appended-count, appended-ok, labels, labels-all, appended-labels}
+use Rattle.minuska.proofs.Bridge.WalkLaw.{flat}
+use Rattle.minuska.proofs.Bridge.PlaceLaw.{stands-word, stands-head, stands-first, stands-second, stands-unique}
+use Rattle.minuska.proofs.Bridge.AppendedLaw.{first-words, appended-count, appended-ok, labels, labels-all, appended-labels}
 use Rattle.step.specs.Matching.{Walk, Walking, TurnFrom, Turned}
 use Rattle.step.specs.declared.matching.Turn.the-variants.{Same, Misfit}
 

@@ -17,11 +17,11 @@ use Rattle.minuska.specs.Word.{tagWord, datumWord, okNode, encode}
 use Rattle.minuska.specs.Satisfaction.{Valuation}
 use Rattle.minuska.specs.Rule.{symbolicAt}
 use Rattle.minuska.specs.Computed.Match.{sameTerm, assignNew, assignAt, tryMatch}
-use Rattle.minuska.specs.Computed.Place.{part, Stands, GroundAt, GroundEnds, BoundAt, Binds}
+use Rattle.minuska.specs.Bridge.Place.{part, Stands, GroundAt, GroundEnds, BoundAt, Binds}
 use Rattle.minuska.proofs.Tests.{and-left, and-right, provided-true, same-term, term-same}
 use Rattle.minuska.proofs.WordLaw.{okay}
-use Rattle.minuska.proofs.PlaceLaw.{stands-second, stands-unique}
-use Rattle.minuska.proofs.AppendedLaw.{first-words, labels}
+use Rattle.minuska.proofs.Bridge.PlaceLaw.{stands-second, stands-unique}
+use Rattle.minuska.proofs.Bridge.AppendedLaw.{first-words, labels}
 use Rattle.step.specs.Matching.{Walk, Walking, TurnFrom, Put, Turned}
 use Rattle.step.specs.declared.matching.Turn.the-variants.{Bind, Again, Misfit}
 use Rattle.step.proofs.MatchingLaw.{word, childless, has-part, heads, left-tag, left-datum, words-here, term-at}

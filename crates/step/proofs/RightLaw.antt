@@ -16,14 +16,14 @@ use Rattle.minuska.specs.Function.{inWord, shareRange, outOfRange, interpret}
 use Rattle.minuska.specs.Satisfaction.{Valuation}
 use Rattle.minuska.specs.Rule.{expressionAt, isExpression, isExpressionTerm}
 use Rattle.minuska.specs.Computed.Value.{valueAt, value, values}
-use Rattle.minuska.specs.Computed.Walk.{emit}
-use Rattle.minuska.specs.Computed.Place.{Stands, part}
+use Rattle.minuska.specs.Bridge.Walk.{emit}
+use Rattle.minuska.specs.Bridge.Place.{Stands, part}
 use Rattle.minuska.proofs.Tests.{and-left, and-right, and-both}
 use Rattle.minuska.proofs.FunctionLaw.{every-value}
 use Rattle.minuska.proofs.WordLaw.{okay, okay-all, appended, encode-appended}
-use Rattle.minuska.proofs.AppendedLaw.{first-words, appended-ok}
-use Rattle.minuska.proofs.ItemLaw.{variable-item, call-item, plain-item, term-appended}
-use Rattle.minuska.proofs.PlaceLaw.{stands-first, stands-second, stands-head, stands-word}
+use Rattle.minuska.proofs.Bridge.AppendedLaw.{first-words, appended-ok}
+use Rattle.minuska.proofs.Bridge.ItemLaw.{variable-item, call-item, plain-item, term-appended}
+use Rattle.minuska.proofs.Bridge.PlaceLaw.{stands-first, stands-second, stands-head, stands-word}
 use Rattle.term.specs.TermAt.{TermAt, TermEnds}
 use Rattle.value.specs.declared.Evaluated.{Evaluated}
 use Rattle.value.specs.declared.Value.the-variants as W

@@ -17,18 +17,18 @@ use Rattle.minuska.specs.Satisfaction.{Valuation, SideCondition, Matches}
 use Rattle.minuska.specs.Rule.{Rule, Table, conditionWords, okRule, okCondition, IsTable}
 use Rattle.minuska.specs.Computed.Match.{unbound}
 use Rattle.minuska.specs.Computed.Value.{value}
-use Rattle.minuska.specs.Computed.Walk.{emit}
-use Rattle.minuska.specs.Computed.Place.{Indexed, Accepted}
+use Rattle.minuska.specs.Bridge.Walk.{emit}
+use Rattle.minuska.specs.Bridge.Place.{Indexed, Accepted}
 use Rattle.minuska.proofs.Tests.{and-left, and-right}
 use Rattle.minuska.proofs.Good.{good, good-condition}
 use Rattle.minuska.proofs.StepLaw.{rule-okay}
 use Rattle.minuska.proofs.MatchLaw.{match-sound, matches-binds}
 use Rattle.minuska.proofs.ConditionLaw.{has-value}
 use Rattle.minuska.proofs.OrderLaw.{named-below}
-use Rattle.minuska.proofs.PositionLaw.{few-rules}
-use Rattle.minuska.proofs.PlaceLaw.{stands-head, stands-word}
-use Rattle.minuska.proofs.WriteLaw.{emit-values}
-use Rattle.minuska.proofs.IndexLaw.{RulePlaced, rightOf, rule-placed, left-stands, right-stands, conditions-stand}
+use Rattle.minuska.proofs.Bridge.PositionLaw.{few-rules}
+use Rattle.minuska.proofs.Bridge.PlaceLaw.{stands-head, stands-word}
+use Rattle.minuska.proofs.Bridge.WriteLaw.{emit-values}
+use Rattle.minuska.proofs.Bridge.IndexLaw.{RulePlaced, rightOf, rule-placed, left-stands, right-stands, conditions-stand}
 use Rattle.step.specs.Apply.{RuleAt, Names, Matched, SomeMatched, MatchIs, rootTag, RootMeets, RootIs, HoldIs, MeasureIs, WordsFit, WriteIs}
 use Rattle.step.specs.Matching.{IsLeft, LeftIn, MatchContract}
 use Rattle.step.specs.Conditions.{Sides, Conditions, SomeConditions, HoldAllIs}

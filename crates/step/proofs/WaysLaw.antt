@@ -19,10 +19,10 @@ use Rattle.minuska.specs.declared.StepAnswer.the-variants as S
 use Rattle.minuska.specs.declared.Refusal.the-variants.{OverLimit}
 use Rattle.minuska.specs.Computed.Match.{tryMatch, unbound}
 use Rattle.minuska.specs.Computed.Value.{value, holdAll}
-use Rattle.minuska.specs.Computed.Place.{Indexed, Accepted}
+use Rattle.minuska.specs.Bridge.Place.{Indexed, Accepted}
 use Rattle.minuska.specs.Contract.{StepByRuleContract}
-use Rattle.minuska.specs.Computed.Place.{RuleCountIs, ActionIs}
-use Rattle.minuska.proofs.AcceptedLaw.{term-length}
+use Rattle.minuska.specs.Bridge.Place.{RuleCountIs, ActionIs}
+use Rattle.minuska.proofs.Bridge.AcceptedLaw.{term-length}
 use Rattle.step.specs.declared.right.Fit.{Fit}
 use Rattle.step.specs.declared.right.Fit.the-variants.{Words, TooLarge}
 use Rattle.step.specs.Apply.{RuleAt, Names, Matched, SomeMatched, MatchIs, RootIs, HoldIs, MeasureIs, WordsFit, WriteIs, Instantiated}

@@ -7,7 +7,7 @@ use Rattle.minuska.specs.declared.Check.{Check}
 use Rattle.minuska.specs.declared.Check.the-variants.{Good}
 use Rattle.minuska.specs.Slice.{write}
 use Rattle.minuska.specs.Computed.Outcome.{tableCheck, configurationCheck, orSecond}
-use Rattle.minuska.specs.Computed.Place.{Indexed, Accepted}
+use Rattle.minuska.specs.Bridge.Place.{Indexed, Accepted}
 use Rattle.table.specs.Index.{placesFound}
 
 -- The answer; the index afterwards, for every answer; and where nothing is refused, what the routines on checked words ask.

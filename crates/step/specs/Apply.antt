@@ -19,7 +19,7 @@ use Rattle.minuska.specs.declared.StepAnswer.the-variants as S
 use Rattle.minuska.specs.declared.Refusal.the-variants.{OverLimit}
 use Rattle.minuska.specs.Computed.Match.{tryMatch, unbound}
 use Rattle.minuska.specs.Computed.Value.{value, holdAll}
-use Rattle.minuska.specs.Computed.Place.{Binds}
+use Rattle.minuska.specs.Bridge.Place.{Binds}
 use Rattle.step.specs.declared.right.Fit.{Fit}
 use Rattle.step.specs.declared.right.Fit.the-variants.{Words, TooLarge}
 

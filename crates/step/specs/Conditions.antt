@@ -12,7 +12,7 @@ use Rattle.minuska.specs.Word.{ok}
 use Rattle.minuska.specs.Satisfaction.{Valuation, SideCondition}
 use Rattle.minuska.specs.Rule.{isExpression, conditionWords}
 use Rattle.minuska.specs.Computed.Value.{value, holdAll}
-use Rattle.minuska.specs.Computed.Place.{Stands, Binds}
+use Rattle.minuska.specs.Bridge.Place.{Stands, Binds}
 
 pub record Side (ρ : Valuation) (e : Term) : Type 0 where
   pub good : T (ok (single e))

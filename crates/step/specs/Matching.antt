@@ -14,7 +14,7 @@ use Rattle.minuska.specs.Word.{ok, encode}
 use Rattle.minuska.specs.Satisfaction.{Valuation, Matches}
 use Rattle.minuska.specs.Rule.{isSymbolic, IsConfiguration}
 use Rattle.minuska.specs.Computed.Match.{unbound, tryMatch}
-use Rattle.minuska.specs.Computed.Place.{Stands, BoundAt, Binds}
+use Rattle.minuska.specs.Bridge.Place.{Stands, BoundAt, Binds}
 use Rattle.step.specs.declared.matching.Turn.{Turn}
 use Rattle.step.specs.declared.matching.Turn.the-variants.{Same, Bind, Again, Misfit}
 

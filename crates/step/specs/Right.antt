@@ -11,8 +11,8 @@ use Rattle.minuska.specs.Word.{ok, encode}
 use Rattle.minuska.specs.Satisfaction.{Valuation}
 use Rattle.minuska.specs.Rule.{isExpressionTerm}
 use Rattle.minuska.specs.Slice.{write}
-use Rattle.minuska.specs.Computed.Walk.{emit}
-use Rattle.minuska.specs.Computed.Place.{Stands, Binds}
+use Rattle.minuska.specs.Bridge.Walk.{emit}
+use Rattle.minuska.specs.Bridge.Place.{Stands, Binds}
 use Rattle.value.specs.declared.Evaluated.{Evaluated}
 use Rattle.value.specs.Value.{valueWords, Within}
 use Rattle.step.specs.declared.right.Fit.{Fit}

@@ -5,12 +5,14 @@ mod right;
 mod rule;
 
 use minuska::Check;
+use minuska::INDEX_LEN;
+use minuska::Index;
 use minuska::Refusal;
 use minuska::StepAnswer;
 use right::Fit;
 ghost use mathlib.Core.Path.{_≡_};
 ghost use Rattle.minuska.specs.Contract.{StepByRuleContract, StepContract};
-ghost use Rattle.minuska.specs.Computed.Place.{Indexed, Accepted, RuleCountIs, ActionIs, OrderedIs, Decides};
+ghost use Rattle.minuska.specs.Bridge.Place.{Indexed, Accepted, RuleCountIs, ActionIs, OrderedIs, Decides};
 ghost use Rattle.minuska.specs.Slice.{outLimit};
 ghost use Rattle.step.specs.Accept.{AcceptContract};
 ghost use Rattle.step.specs.Apply.{SomeMatched, Instantiated};
@@ -18,7 +20,7 @@ ghost use Rattle.step.specs.Apply.{SomeMatched, Instantiated};
 // The step by one given rule, of checked words.
 pub fn apply_rule<'a>(
     table: &'a [i64],
-    index: &[usize; 1024],
+    index: &Index,
     configuration: &'a [i64],
     rule: usize,
     out: &mut [i64],
@@ -42,7 +44,7 @@ pub fn apply_rule<'a>(
 // The same, with two arrays lent for where the left's variables stand.
 fn try_rule<'a>(
     table: &'a [i64],
-    index: &[usize; 1024],
+    index: &Index,
     configuration: &'a [i64],
     rule: usize,
     starts: &mut [usize; 16],
@@ -67,7 +69,7 @@ fn try_rule<'a>(
 // The successor by a rule whose left matches and whose conditions hold, if it is within the limit that out gives.
 fn write_within<'a>(
     table: &'a [i64],
-    index: &[usize; 1024],
+    index: &Index,
     configuration: &'a [i64],
     rule: usize,
     starts: &[usize; 16],
@@ -101,7 +103,7 @@ fn out_limit(words: usize) -> usize
 // The step, of checked words. Most rules of a table show at the left's root that they do not apply: these are passed over, and not tried.
 pub fn apply_earliest<'a>(
     table: &'a [i64],
-    index: &[usize; 1024],
+    index: &Index,
     configuration: &'a [i64],
     out: &mut [i64],
 ) -> StepAnswer
@@ -150,7 +152,7 @@ fn is_stuck(answer: StepAnswer) -> bool
 }
 
 // Refusals 1 and 2, in order; where there is none, the index is the table's.
-pub fn accept(table: &[i64], configuration: &[i64], index: &mut [usize; 1024]) -> Check
+pub fn accept(table: &[i64], configuration: &[i64], index: &mut Index) -> Check
     ensures { λ r. ⌜ AcceptContract (now (table .entry)) (now (configuration .entry)) (now (index .entry)) (now (index .exit)) r ⌝ }
 {
     match table::index_table(table, index) {
@@ -168,7 +170,7 @@ pub fn step_by_rule<'a>(
 ) -> StepAnswer
     ensures { λ r. ⌜ StepByRuleContract (now (table .entry)) (now (configuration .entry)) rule (now (out .entry)) (now (out .exit)) r ⌝ }
 {
-    let mut index = [0usize; 1024];
+    let mut index = [0usize; INDEX_LEN];
     match accept(table, configuration, &mut index) {
         Check::Good => apply_rule(table, &index, configuration, rule, out),
         Check::Refused(r) => StepAnswer::Refused(r),
@@ -179,7 +181,7 @@ pub fn step_by_rule<'a>(
 pub fn step<'a>(table: &'a [i64], configuration: &'a [i64], out: &mut [i64]) -> StepAnswer
     ensures { λ r. ⌜ StepContract (now (table .entry)) (now (configuration .entry)) (now (out .entry)) (now (out .exit)) r ⌝ }
 {
-    let mut index = [0usize; 1024];
+    let mut index = [0usize; INDEX_LEN];
     match accept(table, configuration, &mut index) {
         Check::Good => apply_earliest(table, &index, configuration, out),
         Check::Refused(r) => StepAnswer::Refused(r),
@@ -187,21 +189,21 @@ pub fn step<'a>(table: &'a [i64], configuration: &'a [i64], out: &mut [i64]) -> 
 }
 
 // How many rules a checked table has, a rule's action, and the rule at a position of the order in which rules are tried.
-pub fn rule_count(table: &[i64], index: &[usize; 1024]) -> usize
+pub fn rule_count(table: &[i64], index: &Index) -> usize
     requires { ⌜ Indexed (now table) (now index) ⌝ }
     ensures { λ r. ⌜ RuleCountIs (now (table .entry)) r ⌝ }
 {
     table::rule_count(table, index)
 }
 
-pub fn action(table: &[i64], index: &[usize; 1024], rule: usize) -> u16
+pub fn action(table: &[i64], index: &Index, rule: usize) -> u16
     requires { ⌜ Indexed (now table) (now index) ⌝ }
     ensures { λ r. ⌜ ActionIs (now (table .entry)) rule r ⌝ }
 {
     table::action(table, index, rule)
 }
 
-pub fn ordered(table: &[i64], index: &[usize; 1024], position: usize) -> usize
+pub fn ordered(table: &[i64], index: &Index, position: usize) -> usize
     requires { ⌜ Indexed (now table) (now index) ⌝ }
     ensures { λ r. ⌜ OrderedIs (now (table .entry)) position r ⌝ }
 {

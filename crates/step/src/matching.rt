@@ -2,7 +2,7 @@
 ghost use mathlib.Core.Path.{_≡_};
 ghost use Prim.Native.Nat.{_<_};
 ghost use lib.ListN.{length};
-ghost use Rattle.minuska.specs.Computed.Place.{Accepted};
+ghost use Rattle.minuska.specs.Bridge.Place.{Accepted};
 ghost use Rattle.step.specs.Matching.{LeftIn, MatchContract, TurnFrom, Turned, Put};
 
 // What a node of a left finds at the configuration's term that the walk has come to.

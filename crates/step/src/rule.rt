@@ -1,13 +1,14 @@
 // One rule at a configuration, over checked words and the table's index: its left, its conditions, the words of its right.
 use crate::right::Fit;
+use minuska::Index;
 ghost use mathlib.Core.Path.{_≡_};
 ghost use Prim.Native.Nat.{_+_, _*_, _<_};
 ghost use lib.ListN.{length, getD};
-ghost use Rattle.minuska.specs.Computed.Place.{Indexed, Accepted};
+ghost use Rattle.minuska.specs.Bridge.Place.{Indexed, Accepted};
 ghost use Rattle.step.specs.Apply.{Names, SomeMatched, MatchIs, RootIs, HoldIs, MeasureIs, WordsFit, WriteIs};
 
 // A number of the index: where part 0, 1, 2 or 3 of a rule starts (the rule, its right, its conditions, what follows it).
-pub fn place(index: &[usize; 1024], rule: usize, part: usize) -> usize
+pub fn place(index: &Index, rule: usize, part: usize) -> usize
     requires { ⌜ 4 * rule + part < 1024 ⌝ }
     ensures { λ r. ⌜ r ≡ getD (now (index .entry)) (4 * rule + part) 0 ⌝ }
 {
@@ -17,7 +18,7 @@ pub fn place(index: &[usize; 1024], rule: usize, part: usize) -> usize
 // Whether the rule's left matches the configuration; if so, the places of its variables' terms stand in starts and ends.
 pub fn match_rule(
     table: &[i64],
-    index: &[usize; 1024],
+    index: &Index,
     rule: usize,
     configuration: &[i64],
     starts: &mut [usize; 16],
@@ -32,12 +33,7 @@ pub fn match_rule(
 }
 
 // Whether the left's root already says that the left does not match: it is no variable, and its words are not those of the configuration's root.
-pub fn root_differs(
-    table: &[i64],
-    index: &[usize; 1024],
-    rule: usize,
-    configuration: &[i64],
-) -> bool
+pub fn root_differs(table: &[i64], index: &Index, rule: usize, configuration: &[i64]) -> bool
     requires { ⌜ Indexed (now table) (now index) × Accepted (now configuration) × Names (now table) rule ⌝ }
     ensures { λ r. ⌜ RootIs (now (table .entry)) (now (configuration .entry)) rule r ⌝ }
 {
@@ -58,7 +54,7 @@ pub fn root_differs(
 // Whether the rule's conditions hold.
 pub fn conditions_hold<'a>(
     table: &'a [i64],
-    index: &[usize; 1024],
+    index: &Index,
     rule: usize,
     configuration: &'a [i64],
     starts: &[usize; 16],
@@ -75,7 +71,7 @@ pub fn conditions_hold<'a>(
 // How many words the rule's successor has, if there is room for them.
 pub fn measure(
     table: &[i64],
-    index: &[usize; 1024],
+    index: &Index,
     rule: usize,
     configuration: &[i64],
     starts: &[usize; 16],
@@ -93,7 +89,7 @@ pub fn measure(
 // Writes the words of the rule's successor from the start of out.
 pub fn write_successor<'a>(
     table: &'a [i64],
-    index: &[usize; 1024],
+    index: &Index,
     rule: usize,
     configuration: &'a [i64],
     starts: &[usize; 16],

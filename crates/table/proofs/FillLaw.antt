@@ -20,7 +20,7 @@ use Rattle.minuska.specs.declared.Refusal.the-variants.{BadTable}
 use Rattle.minuska.specs.Slice.{write}
 use Rattle.minuska.specs.Computed.Read.{numberBelow, isEmpty, readRule, readRules, readTable}
 use Rattle.minuska.specs.Computed.Outcome.{checked, tableCheck}
-use Rattle.minuska.specs.Computed.Place.{rulePlaces, placesFrom, places, Indexed}
+use Rattle.minuska.specs.Bridge.Place.{rulePlaces, placesFrom, places, Indexed}
 use Rattle.minuska.proofs.Tests.{came, provided-some, and-right, true-of}
 use Rattle.minuska.proofs.TableLaw.{read-table-iff}
 use Rattle.table.specs.Number.{naturalOf}

@@ -13,11 +13,11 @@ use lib.ListN.{length, getD, getElem?}
 use borrow.Author.Tests.{leb-true, leb-false}
 use Rattle.minuska.specs.Rule.{Rule, Table, IsTable}
 use Rattle.minuska.specs.Computed.Step.{upFrom, order}
-use Rattle.minuska.specs.Computed.Place.{Indexed, RuleCountIs, ActionIs, OrderedIs}
+use Rattle.minuska.specs.Bridge.Place.{Indexed, RuleCountIs, ActionIs, OrderedIs}
 use Rattle.minuska.proofs.Good.{good}
-use Rattle.minuska.proofs.PlaceLaw.{stands-head}
-use Rattle.minuska.proofs.IndexLaw.{one-table, RulePlaced, rule-placed}
-use Rattle.minuska.proofs.PositionLaw.{element-there, few-rules, order-length}
+use Rattle.minuska.proofs.Bridge.PlaceLaw.{stands-head}
+use Rattle.minuska.proofs.Bridge.IndexLaw.{one-table, RulePlaced, rule-placed}
+use Rattle.minuska.proofs.Bridge.PositionLaw.{element-there, few-rules, order-length}
 use Rattle.minuska.proofs.StepLaw.{rule-okay}
 use Rattle.minuska.proofs.OrderLaw.{named-below}
 use Rattle.table.specs.Number.{naturalOf}

@@ -10,7 +10,7 @@ use lib.IntN.{ℤ, pos}
 use lib.ListN.{getD}
 use Rattle.minuska.proofs.Tests.{and-left, and-right, and-both}
 use Rattle.minuska.proofs.WordLaw.{node-read, read-node}
-use Rattle.minuska.proofs.ReadLaw.{few-children}
+use Rattle.minuska.proofs.Bridge.ReadLaw.{few-children}
 use Rattle.minuska.specs.Basics.{_>>=_, provided}
 use Rattle.minuska.specs.Computed.Read.{readNode}
 use Rattle.minuska.specs.Function.{functionAt}

@@ -16,7 +16,7 @@ use Rattle.minuska.specs.Computed.Read.{spanTerms, readTerm}
 use Rattle.minuska.proofs.Tests.{came, provided-some, provided-true}
 use Rattle.minuska.proofs.WordLaw.{encode-length}
 use Rattle.minuska.proofs.SpanLaw.{read-term-iff}
-use Rattle.minuska.proofs.ReadLaw.{span-reads}
+use Rattle.minuska.proofs.Bridge.ReadLaw.{span-reads}
 use Rattle.term.specs.declared.Place.the-variants as P
 use Rattle.table.specs.declared.node.Level.{Level}
 use Rattle.table.specs.Below.{Below}

@@ -20,7 +20,7 @@ use Rattle.table.specs.declared.node.Level.the-variants.{Left, Right}
 use Rattle.table.specs.Number.{naturalOf}
 use Rattle.table.specs.Walk.{partEnd, partSeen}
 use Rattle.table.specs.Rule.{conditionsEnd, RuleAt}
-use Rattle.minuska.specs.Computed.Place.{rulePlaces}
+use Rattle.minuska.specs.Bridge.Place.{rulePlaces}
 use Rattle.table.proofs.BasicLaw.{none-after, refused}
 use Rattle.table.proofs.NumberLaw.{below-not, below-yes}
 use Rattle.table.proofs.TurnLaw.{two-words}

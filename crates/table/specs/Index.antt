@@ -13,7 +13,7 @@ use Rattle.minuska.specs.declared.Check.the-variants.{Good}
 use Rattle.minuska.specs.Slice.{write}
 use Rattle.minuska.specs.Computed.Read.{numberBelow, readRule}
 use Rattle.minuska.specs.Computed.Outcome.{tableCheck}
-use Rattle.minuska.specs.Computed.Place.{rulePlaces, Indexed}
+use Rattle.minuska.specs.Bridge.Place.{rulePlaces, Indexed}
 
 -- the places of the rules that words start with, at most k of them, up to the first that is not accepted
 abbrev pub placesThen : ℕ → Option (Rule × List ℤ) → (ℕ → List ℤ → List ℕ) → List ℕ

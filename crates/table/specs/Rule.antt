@@ -9,7 +9,7 @@ use lib.ListN.{drop}
 use Rattle.minuska.specs.Basics.{_>>=_}
 use Rattle.minuska.specs.Rule.{Rule}
 use Rattle.minuska.specs.Computed.Read.{readRule}
-use Rattle.minuska.specs.Computed.Place.{rulePlaces}
+use Rattle.minuska.specs.Bridge.Place.{rulePlaces}
 use Rattle.term.specs.declared.Place.{Place}
 use Rattle.table.specs.declared.node.Level.the-variants.{Expression}
 use Rattle.table.specs.declared.rule.Parts.{Parts}

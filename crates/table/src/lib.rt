@@ -10,20 +10,22 @@ mod walk;
 use crate::fill::fill;
 use crate::number::natural;
 use minuska::Check;
+use minuska::INDEX_LEN;
+use minuska::Index;
 ghost use Rattle.minuska.specs.Contract.{CheckTableContract};
-ghost use Rattle.minuska.specs.Computed.Place.{Indexed, RuleCountIs, ActionIs, OrderedIs};
+ghost use Rattle.minuska.specs.Bridge.Place.{Indexed, RuleCountIs, ActionIs, OrderedIs};
 ghost use Rattle.table.specs.Index.{IndexTableContract};
 
 // Checks a table.
 pub fn check_table(table: &[i64]) -> Check
     ensures { λ r. ⌜ CheckTableContract (now (table .entry)) r ⌝ }
 {
-    let mut index = [0usize; 1024];
+    let mut index = [0usize; INDEX_LEN];
     index_table(table, &mut index)
 }
 
 // The same, and the index: four numbers a rule, its start, its right, its conditions and its end.
-pub fn index_table(table: &[i64], index: &mut [usize; 1024]) -> Check
+pub fn index_table(table: &[i64], index: &mut Index) -> Check
     ensures { λ r. ⌜ IndexTableContract (now (table .entry)) (now (index .entry)) (now (index .exit)) r ⌝ }
 {
     let ranges = term::ground::RANGES;
@@ -31,7 +33,7 @@ pub fn index_table(table: &[i64], index: &mut [usize; 1024]) -> Check
 }
 
 // How many rules a checked table has.
-pub fn rule_count(table: &[i64], index: &[usize; 1024]) -> usize
+pub fn rule_count(table: &[i64], index: &Index) -> usize
     requires { ⌜ Indexed (now table) (now index) ⌝ }
     ensures { λ r. ⌜ RuleCountIs (now (table .entry)) r ⌝ }
 {
@@ -39,7 +41,7 @@ pub fn rule_count(table: &[i64], index: &[usize; 1024]) -> usize
 }
 
 // The action of a checked table's rule; 0 of a number that names none.
-pub fn action(table: &[i64], index: &[usize; 1024], rule: usize) -> u16
+pub fn action(table: &[i64], index: &Index, rule: usize) -> u16
     requires { ⌜ Indexed (now table) (now index) ⌝ }
     ensures { λ r. ⌜ ActionIs (now (table .entry)) rule r ⌝ }
 {
@@ -51,7 +53,7 @@ pub fn action(table: &[i64], index: &[usize; 1024], rule: usize) -> u16
 }
 
 // The rule at a position of the order in which rules are tried.
-pub fn ordered(table: &[i64], index: &[usize; 1024], position: usize) -> usize
+pub fn ordered(table: &[i64], index: &Index, position: usize) -> usize
     requires { ⌜ Indexed (now table) (now index) ⌝ }
     ensures { λ r. ⌜ OrderedIs (now (table .entry)) position r ⌝ }
 {

@@ -11,9 +11,9 @@ use lib.Seq.{take-all, take-length}
 use Rattle.minuska.proofs.ContractLaw.{check-configuration-contract}
 use Rattle.minuska.proofs.OutcomeLaw.{configuration-check}
 use Rattle.minuska.proofs.SubtermLaw.{ConfigurationSubterm, configuration-subterm, subterm-some, subterm-malformed, subterm-contract}
-use Rattle.minuska.proofs.PartLaw.{configuration-good, good-configuration}
-use Rattle.minuska.proofs.AcceptedLaw.{term-length, configuration-length}
-use Rattle.minuska.specs.Computed.Place.{Stands, GroundAt, GroundEnds}
+use Rattle.minuska.proofs.Bridge.PartLaw.{configuration-good, good-configuration}
+use Rattle.minuska.proofs.Bridge.AcceptedLaw.{term-length, configuration-length}
+use Rattle.minuska.specs.Bridge.Place.{Stands, GroundAt, GroundEnds}
 use Rattle.minuska.specs.Contract.{CheckConfigurationContract, SubtermContract}
 use Rattle.minuska.specs.Rule.{maxNodes, IsConfiguration}
 use Rattle.minuska.specs.Term.{Term, single, nodeCount}

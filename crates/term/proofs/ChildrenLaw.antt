@@ -6,9 +6,9 @@ use native.Mathlib.Omega.{arith}
 use lib.Dec.{T, eqb, ltb, eqb→eq, ltb→lt}
 use lib.IntN.{ℤ, pos, natAbs}
 use lib.ListN.{length}
-use Rattle.minuska.proofs.AppendedLaw.{labels-all}
+use Rattle.minuska.proofs.Bridge.AppendedLaw.{labels-all}
 use Rattle.minuska.proofs.Tests.{and-left, and-right}
-use Rattle.minuska.specs.Computed.Place.{Stands}
+use Rattle.minuska.specs.Bridge.Place.{Stands}
 use Rattle.minuska.specs.Function.{functionAt, functions}
 use Rattle.minuska.specs.Term.{Label, call, error, symbol, truth, variable, whole, Forest, nil, node, Term, single, everyLabel}
 use Rattle.minuska.specs.Word.{datumWord, encode, ok, okHead, tagWord}

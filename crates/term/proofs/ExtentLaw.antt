@@ -13,7 +13,7 @@ use lib.Seq.{length-take-le}
 use Rattle.minuska.proofs.Tests.{came, provided-some, provided-true, and-left, and-right, and-both}
 use Rattle.minuska.proofs.WordLaw.{okay, head-okay, node-read, encode-decode}
 use Rattle.minuska.specs.Basics.{_>>=_, provided}
-use Rattle.minuska.specs.Computed.Place.{Stands}
+use Rattle.minuska.specs.Bridge.Place.{Stands}
 use Rattle.minuska.specs.Computed.Read.{readNode, splitTerms, adopt, decode}
 use Rattle.minuska.specs.Term.{Forest, nil, node, Label, Term, single, termCount, everyLabel}
 use Rattle.minuska.specs.Word.{datumWord, encode, ok, okHead, okNode, tagWord}

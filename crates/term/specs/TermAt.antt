@@ -7,7 +7,7 @@ use lib.IntN.{ℤ}
 use lib.ListN.{length}
 use Rattle.minuska.specs.Term.{Term, single}
 use Rattle.minuska.specs.Word.{ok, encode}
-use Rattle.minuska.specs.Computed.Place.{Stands}
+use Rattle.minuska.specs.Bridge.Place.{Stands}
 use Rattle.term.specs.TermEnd.{childCountOf}
 use Rattle.term.specs.declared.Count.the-variants.{Is}
 

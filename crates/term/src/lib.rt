@@ -3,7 +3,7 @@ ghost use mathlib.Core.Path.{_≡_};
 ghost use Prim.Native.Nat.{_<_};
 ghost use lib.IntN.{pos};
 ghost use lib.ListN.{length, getD};
-ghost use Rattle.minuska.specs.Computed.Place.{GroundAt, GroundEnds};
+ghost use Rattle.minuska.specs.Bridge.Place.{GroundAt, GroundEnds};
 ghost use Rattle.minuska.specs.Contract.{CheckConfigurationContract, SubtermContract};
 ghost use Rattle.term.specs.TermAt.{TermAt, TermEnds, NodeWords};
 ghost use Rattle.term.specs.TermEnd.{arityOf, childrenByTag, childCountOf};

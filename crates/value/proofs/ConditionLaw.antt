@@ -12,7 +12,7 @@ use Rattle.minuska.specs.Term.{Term, single}
 use Rattle.minuska.specs.Word.{encode}
 use Rattle.minuska.specs.Satisfaction.{Valuation, SideCondition, Holds}
 use Rattle.minuska.specs.Computed.Value.{value, agreeing, agree, holds}
-use Rattle.minuska.specs.Computed.Place.{Decides}
+use Rattle.minuska.specs.Bridge.Place.{Decides}
 use Rattle.minuska.proofs.Tests.{single-injective}
 use Rattle.minuska.proofs.WordLaw.{encode-injective}
 use Rattle.minuska.proofs.ValueLaw.{agreeing-iff, holds-iff}

@@ -15,11 +15,11 @@ use Rattle.minuska.specs.Function.{functions, functionAt, interpret}
 use Rattle.minuska.specs.Rule.{expressionAt, isExpression}
 use Rattle.minuska.specs.Satisfaction.{Valuation}
 use Rattle.minuska.specs.Computed.Value.{valueAt, values, value}
-use Rattle.minuska.specs.Computed.Place.{Stands, BoundAt}
+use Rattle.minuska.specs.Bridge.Place.{Stands, BoundAt}
 use Rattle.minuska.proofs.Tests.{came, and-left, and-right, and-both}
 use Rattle.minuska.proofs.WordLaw.{okay, okay-all}
 use Rattle.minuska.proofs.ValueLaw.{ground-value}
-use Rattle.minuska.proofs.PlaceLaw.{stands-first, stands-second, Two, two-words}
+use Rattle.minuska.proofs.Bridge.PlaceLaw.{stands-first, stands-second, Two, two-words}
 use Rattle.value.specs.Evaluate.{HasValue, HaveValues, firstOf, restOf}
 
 -- a term's words are its node's, then its children's; the words of the rest follow

@@ -11,7 +11,7 @@ use Rattle.minuska.specs.Term.{Forest, nil, node, Term, single, leaf, termCount
 use Rattle.minuska.specs.Word.{tagWord, datumWord, ok, encode}
 use Rattle.minuska.specs.Function.{argument, interpret}
 use Rattle.minuska.specs.Satisfaction.{Valuation}
-use Rattle.minuska.specs.Computed.Place.{part, Stands}
+use Rattle.minuska.specs.Bridge.Place.{part, Stands}
 use Rattle.minuska.proofs.Tests.{and-left, and-right}
 use Rattle.minuska.proofs.ValueLaw.{value-iff-evaluates}
 use Rattle.minuska.proofs.KeepLaw.{fine-apply}

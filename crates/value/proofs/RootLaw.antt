@@ -13,7 +13,7 @@ use mir.Facts.{toZ-ofZ}
 use Rattle.minuska.specs.Term.{Label, error, truth, whole, variable, call, symbol, nil, Term, single, termCount, role, groundAt, isGround}
 use Rattle.minuska.specs.Word.{tagWord, datumWord, ok, encode}
 use Rattle.minuska.specs.Computed.Read.{guess, childCount, means}
-use Rattle.minuska.specs.Computed.Place.{Stands}
+use Rattle.minuska.specs.Bridge.Place.{Stands}
 use Rattle.minuska.proofs.Tests.{and-left, provided-some}
 use Rattle.minuska.proofs.WordLaw.{read-node, okay}
 use Rattle.value.specs.Builtin.{scalarOf}

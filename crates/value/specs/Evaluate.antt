@@ -16,7 +16,7 @@ use Rattle.minuska.specs.Function.{argument}
 use Rattle.minuska.specs.Rule.{isExpression}
 use Rattle.minuska.specs.Satisfaction.{Valuation, SideCondition, Evaluates, Holds}
 use Rattle.minuska.specs.Computed.Value.{value, values, holds}
-use Rattle.minuska.specs.Computed.Place.{Stands, Binds}
+use Rattle.minuska.specs.Bridge.Place.{Stands, Binds}
 use Rattle.value.specs.Builtin.{scalarOf}
 use Rattle.value.specs.Root.{Head, computedOf}
 use Rattle.value.specs.Value.{valueWords, IsValue}

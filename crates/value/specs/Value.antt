@@ -7,7 +7,7 @@ use lib.IntN.{ℤ, pos}
 use lib.ListN.{length}
 use Rattle.minuska.specs.Term.{Term, single, isGround}
 use Rattle.minuska.specs.Word.{ok, encode}
-use Rattle.minuska.specs.Computed.Place.{part}
+use Rattle.minuska.specs.Bridge.Place.{part}
 use Rattle.value.specs.declared.Value.{Value}
 use Rattle.value.specs.declared.Value.the-variants.{Table, Configuration, Computed}
 

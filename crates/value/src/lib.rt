@@ -4,7 +4,7 @@ ghost use mathlib.Core.Path.{_≡_};
 ghost use Prim.Native.Nat.{_+_, _≤_};
 ghost use lib.IntN.{pos};
 ghost use lib.ListN.{length, getD};
-ghost use Rattle.minuska.specs.Computed.Place.{Decides};
+ghost use Rattle.minuska.specs.Bridge.Place.{Decides};
 ghost use Rattle.value.specs.Root.{HeadIn, HeadIs, tagOf, datumOf};
 ghost use Rattle.value.specs.Value.{valueWords, partWords, ownWords, Within, sizeOf, Ordered};
 ghost use Rattle.value.specs.Evaluate.{ExpressionIn, EvaluateContract, CallIn, LeafIn, RootContract, ArgumentIn, ArgumentContract, ConditionIn, ConditionContract};
@@ -264,12 +264,7 @@ pub fn own_words(v: Value) -> [i64; 2]
 }
 
 // A value's words: its part, or, of a computed value, its own.
-fn words_of<'a>(
-    table: &'a [i64],
-    configuration: &'a [i64],
-    own: &'a [i64],
-    v: Value,
-) -> &'a [i64]
+fn words_of<'a>(table: &'a [i64], configuration: &'a [i64], own: &'a [i64], v: Value) -> &'a [i64]
     requires { ⌜ Within (now table) (now configuration) v × (now own ≡ ownWords v) ⌝ }
     ensures { λ r. ⌜ now r ≡ valueWords (now (table .entry)) (now (configuration .entry)) v ⌝ }
 {

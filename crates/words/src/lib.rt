@@ -4,7 +4,7 @@ ghost use Prim.Native.Nat.{_+_, _^_, _≤_, _<_};
 ghost use lib.IntN.{pos};
 ghost use lib.ListN.{length, getD, take, drop, set, replicate};
 ghost use lib.Seq.{paste};
-ghost use Rattle.minuska.specs.Computed.Place.{Decides};
+ghost use Rattle.minuska.specs.Bridge.Place.{Decides};
 ghost use Rattle.words.specs.Number.{natOf};
 
 // The number that a word holds; 0 for a word below 0.

@@ -7,7 +7,7 @@ use lib.ListN.{getD}
 use mir.Val.{SFits}
 use mir.Syntax.{w64}
 use Rattle.table.specs.Number.{naturalOf}
-use Rattle.minuska.specs.Computed.Place.{ActionIs}
+use Rattle.minuska.specs.Bridge.Place.{ActionIs}
 use Rattle.table.proofs.NumberLaw.{via}
 use Rattle.table.proofs.IndexLaw.{no-rule, number-small, start-inside, action-low, action-is}
 use Rattle.table.proofs.action.Statement.{statement}

@@ -11,7 +11,7 @@ use lib.ListN.{length, drop, getD}
 use mir.Syntax.{w64}
 use mir.Val.{SFits}
 use mir.ValLaws.{toZ-ofZ}
-use Rattle.minuska.specs.Computed.Place.{Stands}
+use Rattle.minuska.specs.Bridge.Place.{Stands}
 use Rattle.minuska.specs.Term.{Term, single, isGround}
 use Rattle.minuska.specs.Word.{encode, ok}
 use Rattle.term.specs.TermEnd.{groundLabel, childrenByTag, extent, placeOf, termEndIf}

@@ -6,7 +6,7 @@ use lib.IntN.{ℤ}
 use lib.ListN.{take, drop}
 use lib.Seq.{length-take-le}
 use Rattle.minuska.specs.Contract.{StepByRuleContract}
-use Rattle.minuska.specs.Computed.Place.{Accepted}
+use Rattle.minuska.specs.Bridge.Place.{Accepted}
 use Rattle.minuska.specs.declared.StepAnswer.{StepAnswer}
 use Rattle.replay.specs.Turns.{TryContract}
 use Rattle.replay.proofs.SeekLaw.{ordered-is}

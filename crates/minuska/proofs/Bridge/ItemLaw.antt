@@ -12,7 +12,7 @@ use Rattle.minuska.specs.Function.{interpret}
 use Rattle.minuska.specs.Satisfaction.{Valuation}
 use Rattle.minuska.specs.Rule.{expressionAt, isExpression, isExpressionTerm}
 use Rattle.minuska.specs.Computed.Value.{values}
-use Rattle.minuska.specs.Computed.Walk.{emitAt, emit}
+use Rattle.minuska.specs.Bridge.Walk.{emitAt, emit}
 use Rattle.minuska.proofs.Tests.{came, and-left, and-right, and-both}
 use Rattle.minuska.proofs.WordLaw.{appended}
 

@@ -10,8 +10,8 @@ use lib.Seq.{getD-take}
 use Rattle.minuska.specs.Term.{single}
 use Rattle.minuska.specs.Word.{encode}
 use Rattle.minuska.specs.Rule.{Rule, Table, conditionWords, ruleWords, rulesWords, IsTable}
-use Rattle.minuska.specs.Computed.Place.{Stands, placesFrom, places, Indexed}
-use Rattle.minuska.proofs.PlaceLaw.{stands-whole, stands-first, stands-second}
+use Rattle.minuska.specs.Bridge.Place.{Stands, placesFrom, places, Indexed}
+use Rattle.minuska.proofs.Bridge.PlaceLaw.{stands-whole, stands-first, stands-second}
 use Rattle.minuska.proofs.TableLaw.{read-table-iff}
 use Rattle.minuska.proofs.OrderLaw.{named-below}
 

@@ -11,7 +11,7 @@ use lib.ListN.{length, take, drop, getD, length-append, length-take, length-drop
 use lib.Seq.{take-length, take-append-seam, drop-append-seam, drop-drop, getD-drop, getD-take}
 use Rattle.minuska.specs.Term.{Term, single}
 use Rattle.minuska.specs.Word.{ok, encode}
-use Rattle.minuska.specs.Computed.Place.{Stands}
+use Rattle.minuska.specs.Bridge.Place.{Stands}
 use Rattle.minuska.proofs.SpanLaw.{read-term-iff}
 
 -- all the words stand at the front

@@ -1,0 +1,10 @@
+pub mod WalkLaw
+pub mod WriteLaw
+pub mod ItemLaw
+pub mod AppendedLaw
+pub mod PlaceLaw
+pub mod IndexLaw
+pub mod AcceptedLaw
+pub mod PositionLaw
+pub mod PartLaw
+pub mod ReadLaw
