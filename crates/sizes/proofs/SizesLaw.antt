@@ -21,6 +21,11 @@ use Rattle.minuska.proofs.OutcomeLaw.{on-words}
 use Rattle.minuska.proofs.Bridge.AcceptedLaw.{configuration-length}
 use Rattle.sizes.specs.Sizes.{firstOf, limitOutside, sizeCheck, Sized}
 
+-- two tests that do not pass
+pub neither : (a b : Bool) → a || b ≡ false → (a ≡ false) × (b ≡ false)
+neither true b e = absurd (true≢false e)
+neither false b e = (refl, e)
+
 -- ---- by what the code tests
 module _ (n most nodes limit : ℕ) (short : Bool) where
   pub too-long : most < n → Refused TooLong ≡ sizeCheck n most nodes limit short
@@ -47,10 +52,6 @@ module _ (n most nodes limit : ℕ) (short : Bool) where
         last-test b s e = rw (le-ltb most n h, ne-eqb limit 0 z, le-ltb maxNodes limit a, le-ltb limit nodes b, e)
 
   -- ---- what holds where there is none, and the other way round
-  neither : (a b : Bool) → a || b ≡ false → (a ≡ false) × (b ≡ false)
-  neither true b e = absurd (true≢false e)
-  neither false b e = (refl, e)
-
   none-given : (l b s : Bool) → firstOf (sizeTests l b s) ≡ Good → (l ≡ false) × (b ≡ false) × (s ≡ false)
   none-given true b s e = absurd (let z : _≡_ {A = ℕ} 0 1 = cc in let f : ⊥ = omega arith in f)
   none-given false true s e = absurd (let z : _≡_ {A = ℕ} 0 1 = cc in let f : ⊥ = omega arith in f)

@@ -8,13 +8,7 @@ ghost use lib.Dec.{ltb};
 ghost use Rattle.sizes.specs.Sizes.{sizeCheck};
 
 // In order: a count above the most, a limit out of range or below the configuration's nodes, a slice that is short.
-pub fn check_sizes(
-    count: usize,
-    most: usize,
-    nodes: usize,
-    limit: usize,
-    short: bool,
-) -> Check
+pub fn check_sizes(count: usize, most: usize, nodes: usize, limit: usize, short: bool) -> Check
     ensures { λ r. ⌜ r ≡ sizeCheck count most nodes limit short ⌝ }
 {
     if most < count {
