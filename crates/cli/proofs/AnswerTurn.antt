@@ -18,7 +18,8 @@ use Rattle.minuska.specs.Computed.Outcome.{replayOutcome}
 use Rattle.minuska.specs.Contract.{ReplayContract}
 use Rattle.cli.proofs.CallerLaw.{choices-length}
 use Rattle.cli.specs.Output.{answerText, reproducedText, refusedText, notReproducedText}
-use Rattle.cli.specs.Computed.Put.{Wrote, written}
+use Rattle.decimal.specs.Computed.Put.{Wrote}
+use Rattle.cli.specs.Computed.Written.{written}
 use Rattle.cli.proofs.WrittenLaw.{written-over}
 
 -- ---- what an outcome's answer tells

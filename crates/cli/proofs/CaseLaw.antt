@@ -22,8 +22,9 @@ use Rattle.minuska.proofs.Tests.{and-left, and-right}
 use Rattle.minuska.proofs.ReplayLaw.{replay-only}
 use Rattle.minuska.proofs.OutcomeLaw.{replay-outcome}
 use Rattle.minuska.proofs.MarkedLaw.{all-mean}
-use Rattle.cli.specs.Decimal.{ascii, digits, decimal, wholeText}
-use Rattle.cli.specs.Input.{parted, line, Request, inputText, isWord, isAction, isLimit, Field, IsInput}
+use Rattle.decimal.specs.Decimal.{ascii, digits, decimal, wholeText}
+use Rattle.decimal.specs.Line.{parted, isWord, isAction, isLimit}
+use Rattle.cli.specs.Input.{line, Request, inputText, Field, IsInput}
 use Rattle.cli.specs.Output.{answered, answerText, reproducedText, notReproducedText}
 use Rattle.cli.specs.Contract.{maxOutput}
 use Rattle.cli.specs.Case.{Case, cases, Answered, AllAnswered}

@@ -23,10 +23,10 @@ use Rattle.cli.specs.Input.{Request, IsInput}
 use Rattle.cli.specs.Output.{answered, answerText, refusedText}
 use Rattle.cli.specs.Contract.{maxOutput, fitted, AnswerContract}
 use Rattle.cli.specs.Computed.Lines.{linesOf, lineIn, requestOf, requestIn}
-use Rattle.cli.specs.Computed.Put.{Wrote}
+use Rattle.decimal.specs.Computed.Put.{Wrote}
 use Rattle.cli.proofs.LinesLaw.{Lined, LinesSound, lines-sound}
 use Rattle.cli.proofs.RequestLaw.{request-iff}
-use Rattle.cli.proofs.PutLaw.{wrote-start}
+use Rattle.decimal.proofs.PutLaw.{wrote-start}
 use Rattle.cli.proofs.AnswerTurn.{write-fits}
 
 module _ (input : List ℕ) where

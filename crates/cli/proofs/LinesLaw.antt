@@ -11,7 +11,7 @@ use borrow.Author.Tests.{lt-leb, le-ltb, eq-eqb, ne-eqb, eqb-true, eqb-false, le
 use Rattle.cli.specs.declared.lines.Lines.{Lines}
 use Rattle.cli.specs.declared.lines.Lines.the-variants.{Four, Bad}
 use Rattle.cli.specs.Computed.Lines.{endFrom, nextLine, linesOf, lineIn}
-use Rattle.cli.proofs.ListLaw.{behind, behind-head, here}
+use Rattle.decimal.proofs.ListLaw.{behind, behind-head, here}
 
 -- ---- the first LF
 abbrev pub NoLf : List ℕ → Type 0

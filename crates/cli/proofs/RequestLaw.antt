@@ -14,13 +14,14 @@ use Rattle.minuska.specs.Basics.{every}
 use Rattle.minuska.proofs.Tests.{and-left, and-both, came}
 use Rattle.cli.specs.declared.lines.Lines.{Lines}
 use Rattle.cli.specs.declared.lines.Lines.the-variants.{Four, Bad}
-use Rattle.cli.specs.Decimal.{digits, decimal, wholeText}
-use Rattle.cli.specs.Input.{continued, parted, line, Request, inputText, isWord, isAction, isLimit, Field, IsInput}
-use Rattle.cli.specs.Computed.Line.{wordOf, items, logItems, accepted, limitIn}
+use Rattle.decimal.specs.Decimal.{digits, decimal, wholeText}
+use Rattle.decimal.specs.Line.{continued, parted, isWord, isAction, isLimit}
+use Rattle.cli.specs.Input.{line, Request, inputText, Field, IsInput}
+use Rattle.decimal.specs.Computed.Line.{wordOf, items, logItems, accepted, limitIn}
 use Rattle.cli.specs.Computed.Lines.{linesOf, requestOf, requestIn}
-use Rattle.cli.proofs.DecimalLaw.{digits-zero, digits-less, decimal-is, by-tenths}
-use Rattle.cli.proofs.LineLaw.{field-complete, field-sound}
-use Rattle.cli.proofs.FieldsLaw.{words, log-complete, log-sound, limit-complete, limit-sound}
+use Rattle.decimal.proofs.DecimalLaw.{digits-zero, digits-less, decimal-is, by-tenths}
+use Rattle.decimal.proofs.LineLaw.{field-complete, field-sound}
+use Rattle.decimal.proofs.FieldsLaw.{words, log-complete, log-sound, limit-complete, limit-sound}
 use Rattle.cli.proofs.LinesLaw.{NoLf, Lined, LinesSound, lines-sound, line-in, Cut, lines-complete}
 
 -- ---- no number has an LF

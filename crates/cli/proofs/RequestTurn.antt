@@ -13,14 +13,14 @@ use Rattle.minuska.specs.declared.Refusal.the-variants.{Unreadable}
 use Rattle.minuska.specs.Slice.{write}
 use Rattle.minuska.specs.Computed.Outcome.{replayOutcome}
 use Rattle.minuska.proofs.Tests.{and-right, provided-some}
-use Rattle.cli.specs.declared.line.Limit.{Limit}
-use Rattle.cli.specs.declared.line.Limit.the-variants as L
-use Rattle.cli.specs.declared.line.Count.{Count}
-use Rattle.cli.specs.declared.line.Count.the-variants as C
+use Rattle.decimal.specs.declared.line.Limit.{Limit}
+use Rattle.decimal.specs.declared.line.Limit.the-variants as L
+use Rattle.decimal.specs.declared.line.Count.{Count}
+use Rattle.decimal.specs.declared.line.Count.the-variants as C
 use Rattle.cli.specs.Output.{answered, answerText, refusedText}
-use Rattle.cli.specs.Computed.Line.{Items, wordOf, items, logItems, accepted, counted, limitIn, limitAnswer, ReadInto}
+use Rattle.decimal.specs.Computed.Line.{Items, wordOf, items, logItems, accepted, counted, limitIn, limitAnswer, ReadInto}
 use Rattle.cli.specs.Computed.Lines.{requestOf}
-use Rattle.cli.specs.Computed.Put.{Wrote}
+use Rattle.decimal.specs.Computed.Put.{Wrote}
 use Rattle.cli.proofs.AnswerTurn.{write-fits}
 
 -- ---- what was read

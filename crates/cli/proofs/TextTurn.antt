@@ -8,11 +8,11 @@ use lib.ListN.{length}
 use Rattle.minuska.specs.declared.Refusal.{Refusal}
 use Rattle.minuska.specs.Answer.{number}
 use Rattle.minuska.specs.Slice.{replaySays}
-use Rattle.cli.specs.Decimal.{ascii, decimal, wholeText}
-use Rattle.cli.specs.Input.{continued, parted}
+use Rattle.decimal.specs.Decimal.{ascii, decimal, wholeText}
+use Rattle.decimal.specs.Line.{continued, parted}
 use Rattle.cli.specs.Output.{reproducedText, refusedText}
-use Rattle.cli.specs.Computed.Put.{Wrote}
-use Rattle.cli.proofs.PutLaw.{wrote-then}
+use Rattle.decimal.specs.Computed.Put.{Wrote}
+use Rattle.decimal.proofs.PutLaw.{wrote-then}
 
 -- one text behind the other, each within the output
 behind-it : (old : List ℕ) (t mid : List ℕ) (m : ℕ) (u new : List ℕ) (r : ℕ) → m ≤ length old → Wrote old 0 t mid m → Wrote mid m u new r → Wrote old 0 (t ++ u) new r

@@ -15,8 +15,8 @@ use borrow.Author.Tests.{ltb-true}
 use Rattle.minuska.specs.Term.{Label, error, truth, whole, variable, call, symbol, Forest, nil, node, termCount}
 use Rattle.minuska.specs.Word.{tagWord, encode}
 use Rattle.minuska.specs.Slice.{write}
-use Rattle.cli.specs.Computed.Put.{written}
-use Rattle.cli.proofs.WordsTurn.{kept-word}
+use Rattle.cli.specs.Computed.Written.{written}
+use Rattle.decimal.proofs.WordsTurn.{kept-word}
 
 -- ---- a turn of the walk
 few : (ws : List ℤ) → length ws ≤ 1 → written ws ≡ 0

@@ -6,7 +6,7 @@ use Prim.Native.String as S
 use lib.ListN.{length}
 use Rattle.minuska.specs.Basics.{Every}
 use Rattle.minuska.specs.Slice.{write}
-use Rattle.cli.specs.Decimal.{ascii}
+use Rattle.decimal.specs.Decimal.{ascii}
 use Rattle.cli.specs.Contract.{maxOutput, AnswerContract}
 
 pub record Case : Type 0 where

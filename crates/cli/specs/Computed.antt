@@ -1,4 +1,2 @@
-pub mod Number
-pub mod Line
 pub mod Lines
-pub mod Put
+pub mod Written

@@ -7,16 +7,8 @@ use lib.IntN.{ℤ, pos, negsuc}
 use lib.Dec.{T, ltb}
 use lib.ListN.{length}
 use Rattle.minuska.specs.Basics.{every}
-use Rattle.cli.specs.Decimal.{ascii, decimal, wholeText}
-
--- "numbers parted by commas, no quoting, no blanks": each but the first behind a comma
-abbrev pub continued : List (List ℕ) → List ℕ
-continued [] = []
-continued (t ∷ ts) = ascii "," ++ (t ++ continued ts)
-
-abbrev pub parted : List (List ℕ) → List ℕ
-parted [] = []
-parted (t ∷ ts) = t ++ continued ts
+use Rattle.decimal.specs.Decimal.{ascii, decimal, wholeText}
+use Rattle.decimal.specs.Line.{parted, isWord, isAction, isLimit}
 
 -- "each ended by LF"
 abbrev pub line : List (List ℕ) → List ℕ
@@ -32,17 +24,6 @@ pub record Request : Type 0 where
 unfoldable pub inputText : Request → List ℕ
 inputText q =
     line (map wholeText (q .table)) ++ (line (map wholeText (q .configuration)) ++ (line (map decimal (q .log)) ++ line (decimal (q .limit) ∷ [])))
-
--- "each fits its field's width (word 64 signed, action 16 unsigned, ceiling 64 unsigned)"
-abbrev pub isWord : ℤ → Bool
-isWord (pos n) = ltb n (2 ^ 63)
-isWord (negsuc n) = ltb n (2 ^ 63)
-
-abbrev pub isAction : ℕ → Bool
-isAction n = ltb n (2 ^ 16)
-
-abbrev pub isLimit : ℕ → Bool
-isLimit n = ltb n (2 ^ 64)
 
 -- The numbers of one line: each fits, there are not too few and not too many, and "at most 16,384 bytes a line without its LF".
 pub record Field {A : Type 0} (text : A → List ℕ) (fits : A → Bool) (least most : ℕ) (xs : List A) : Type 0 where

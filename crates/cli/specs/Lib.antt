@@ -1,6 +1,4 @@
--- What must be believed: numbers as text, the four lines, the answer's text, the contracts of the number reader and of `answer`, and the marked cases.
-pub mod Decimal
-pub mod Number
+-- What must be believed: the four lines, the answer's text, the contract of `answer`, and the marked cases.
 pub mod Input
 pub mod Output
 pub mod Contract

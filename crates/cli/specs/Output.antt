@@ -12,7 +12,7 @@ use Rattle.minuska.specs.Answer.{Outcome, refused, gives, ReplayResult, reprodu
 use Rattle.minuska.specs.declared.ReplayAnswer.the-variants.{Refused}
 use Rattle.minuska.specs.Slice.{replaySays}
 use Rattle.minuska.specs.Computed.Outcome.{replayOutcome}
-use Rattle.cli.specs.Decimal.{ascii, decimal, wholeText}
+use Rattle.decimal.specs.Decimal.{ascii, decimal, wholeText}
 use Rattle.cli.specs.Input.{line, Request}
 
 -- "It lends 1,024 words of out and 4,096 of work", and as many choices as a log line holds actions. No request: "beyond is 7", before all else.

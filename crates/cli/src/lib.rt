@@ -1,15 +1,15 @@
 // The command line program's work: the bytes of an input to the bytes of its answer.
-use crate::line::Count;
-use crate::line::Limit;
-use crate::line::read_limit;
-use crate::line::read_log;
-use crate::line::read_words;
 use crate::lines::Lines;
 use crate::lines::four_lines;
 use crate::print::put_not_reproduced;
 use crate::print::put_refusal;
 use crate::print::put_reproduced;
 use crate::print::written_words;
+use decimal::line::Count;
+use decimal::line::Limit;
+use decimal::line::read_limit;
+use decimal::line::read_log;
+use decimal::line::read_words;
 use minuska::Refusal;
 use minuska::ReplayAnswer;
 ghost use Prim.Native.Nat.{_≤_};
@@ -18,16 +18,10 @@ ghost use Rattle.minuska.specs.Computed.Outcome.{replayOutcome};
 ghost use Rattle.cli.specs.Output.{answered, answerText};
 ghost use Rattle.cli.specs.Contract.{maxOutput, AnswerContract};
 ghost use Rattle.cli.specs.Computed.Lines.{requestOf};
-ghost use Rattle.cli.specs.Computed.Put.{Wrote};
+ghost use Rattle.decimal.specs.Computed.Put.{Wrote};
 
-mod line;
 mod lines;
-mod number;
 mod print;
-mod reader;
-
-pub use number::Number;
-pub use reader::NumberReader;
 
 // An output slice of this many bytes holds every answer.
 pub const MAX_OUTPUT: usize = 28672;

@@ -1,7 +1,7 @@
 -- `answer_lines` meets its contract: a return for each line that is not as it should be, and one for all four.
 use mathlib.Core.Path.{sym}
 use lib.Seq.{length-take-le}
-use Rattle.cli.specs.Computed.Line.{wordOf, items, logItems}
+use Rattle.decimal.specs.Computed.Line.{wordOf, items, logItems}
 use Rattle.cli.proofs.RequestTurn.{Took, took, not-took, limit-read, limit-not, no-table, no-configuration, no-log, no-limit, all-read}
 use borrow.Author.Needs.{needs}
 use Rattle.cli.proofs.answer_lines.Statement.{statement}

@@ -9,7 +9,7 @@ use Rattle.minuska.specs.Basics.{_>>=_}
 use Rattle.cli.specs.declared.lines.Lines.{Lines}
 use Rattle.cli.specs.declared.lines.Lines.the-variants.{Four, Bad}
 use Rattle.cli.specs.Input.{Request}
-use Rattle.cli.specs.Computed.Line.{wordOf, items, logItems, accepted, limitIn}
+use Rattle.decimal.specs.Computed.Line.{wordOf, items, logItems, accepted, limitIn}
 
 -- where the first LF of the bytes stands that a place begins, or where they end
 unfoldable pub endFrom : ℕ → List ℕ → ℕ

@@ -3,7 +3,7 @@ use mathlib.Core.Path.{_≡_}
 use Prim.Native.Nat.{_+_, _-_, _≤_}
 use native.Mathlib.Omega.{arith}
 use lib.ListN.{length, drop}
-use Rattle.cli.specs.Computed.Put.{written}
+use Rattle.cli.specs.Computed.Written.{written}
 use Rattle.cli.proofs.WrittenLaw.{walk-ends, walk-below, walk-more}
 use Rattle.cli.proofs.print.written_words.Statement.{statement}
 use Rattle.cli.proofs.print.written_words.Tie as tie
