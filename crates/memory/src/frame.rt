@@ -3,7 +3,7 @@
 ghost use mathlib.Core.Path.{_≡_};
 ghost use Prim.Native.Nat.{_+_, _^_, _≤_, _<_};
 ghost use lib.ListN.{length};
-ghost use Rattle.memory.specs.Layout.{base, positionOf, wordsOf, Spare, advanced, entered};
+ghost use Rattle.memory.specs.Layout.{base, lengthOf, positionOf, wordsOf, Spare, advanced, entered};
 
 // Where the frame at a depth begins.
 pub fn base_at(room: usize, depth: usize) -> usize
@@ -20,11 +20,19 @@ pub fn position(work: &[i64], at: usize, room: usize) -> usize
     words::number_at(work, at + room + 1)
 }
 
+// How many words the frame's configuration has, 0 where it holds none.
+pub fn length_at(work: &[i64], at: usize, room: usize) -> usize
+    requires { ⌜ at + (room + 2) ≤ length (now work) ⌝ }
+    ensures { λ r. ⌜ r ≡ lengthOf room (now (work .entry)) at ⌝ }
+{
+    words::number_at(work, at + room)
+}
+
 pub fn configuration(work: &[i64], at: usize, room: usize) -> &[i64]
     requires { ⌜ (at + (room + 2) ≤ length (now work)) × Spare room (now work) at ⌝ }
     ensures { λ r. ⌜ now r ≡ wordsOf room (now (work .entry)) at ⌝ }
 {
-    let end = at + words::number_at(work, at + room);
+    let end = at + length_at(work, at, room);
     &work[at..end]
 }
 

@@ -11,15 +11,32 @@ ghost use Rattle.memory.specs.Layout.{base, Spare, Enters, Forgets};
 ghost use Rattle.memory.specs.Memory.{Keeps, Known};
 
 // Whether a frame's table is worth its time, where so many actions are left. Nothing is promised: any answer serves.
-pub fn pays(left: usize) -> bool {
-    4 < left
+pub fn pays(remember: bool, left: usize) -> bool {
+    if remember {
+        return 4 < left;
+    }
+    false
 }
 
-// Whether the frame at `at` is seen to remember a configuration, in its own place or, where that is wanted, in its table.
-pub fn known(work: &[i64], at: usize, room: usize, tabled: bool, configuration: &[i64]) -> bool
+// Whether the frame at `at` is seen to remember a configuration, in its own place or, where that is wanted, in its table. A search that does not remember is
+// told of none.
+pub fn known(
+    work: &[i64],
+    at: usize,
+    room: usize,
+    remember: bool,
+    tabled: bool,
+    configuration: &[i64],
+) -> bool
     requires { ⌜ (at + (room + 2) ≤ length (now work)) × (room ≤ 65536) × Spare room (now work) at × (0 < length (now configuration)) ⌝ }
-    ensures { λ r. ⌜ (r ≡ true → Known room (now (work .entry)) at (now (configuration .entry))) ⌝ }
+    ensures { λ r. ⌜ (r ≡ true → (remember ≡ true) × Known room (now (work .entry)) at (now (configuration .entry))) ⌝ }
 {
+    if !remember {
+        return false;
+    }
+    if frame::length_at(work, at, room) == 0 {
+        return false;
+    }
     if words::same_by_ends(frame::configuration(work, at, room), configuration) {
         return true;
     }

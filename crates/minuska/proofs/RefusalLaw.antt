@@ -56,12 +56,8 @@ regroup b P Q R d = record { yes = λ e. there (d .yes e); no = λ e h. d .no e 
 refused-gives : {A : Type 0} (r : Refusal) (x : A) → refused r ≡ gives x → ⊥
 refused-gives r x e = let z : _≡_ {A = ℕ} 0 1 = cc in omega arith
 
--- ---- the first row that holds: a row that does, a row that does not, a row above an answer
+-- ---- the first row that holds: a row that does not, a row above an answer
 module _ {A : Type 0} (r : Row) (rows : List Row) (o : Outcome A) where
-  pub row-holds : FirstGiven (r ∷ rows) o → r .Given → o ≡ refused (r .refusal)
-  row-holds (inl h) p = h .0
-  row-holds (inr h) p = absurd (h .0 p)
-
   pub row-passed : FirstGiven (r ∷ rows) o → (r .Given → ⊥) → FirstGiven rows o
   row-passed (inl h) f = absurd (f (h .1))
   row-passed (inr h) f = h .1

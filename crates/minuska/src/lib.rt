@@ -1,4 +1,5 @@
 // What the routines answer. The meaning of each answer is in specs/, the laws are in proofs/: README.md says which files must be believed.
+pub mod limits;
 
 ghost use mathlib.Core.Path.{_≡_};
 ghost use Rattle.minuska.specs.Answer.{number};

@@ -3,7 +3,7 @@ use mathlib.Core.Path.{_≡_, refl, ap, ap₂, sym, _∙_, subst, subst⁻¹}
 use mathlib.Core.Bool.{false}
 use mathlib.Core.Logic.{inl, inr}
 use mathlib.Core.List.{List, [], _∷_, _++_, append-assoc}
-use Prim.Native.Nat.{ℕ, _+_, _-_, _≤_, _<_}
+use Prim.Native.Nat.{ℕ, _+_, _-_, _/_, _≤_, _<_}
 use native.Mathlib.Nat.{zero-mul}
 use native.Mathlib.Omega.{arith}
 use lib.IntN.{ℤ}
@@ -13,12 +13,13 @@ use Rattle.minuska.specs.Term.{Term, single, nodeCount}
 use Rattle.minuska.specs.Word.{encode}
 use Rattle.minuska.specs.Rule.{Table}
 use Rattle.minuska.specs.Answer.{gives, ReplayResult, reproduced}
-use Rattle.minuska.specs.Slice.{outLimit, replayAnswer, replayOut, replayChoices, write, writeZeros}
+use Rattle.minuska.specs.Slice.{outLimit, replayOut, replayChoices, write, writeZeros}
 use Rattle.minuska.specs.Computed.Step.{next, order}
 use Rattle.minuska.specs.Computed.Replay.{replay}
 use Rattle.minuska.specs.Bridge.Place.{Accepted}
-use Rattle.minuska.specs.declared.ReplayAnswer.{ReplayAnswer}
-use Rattle.minuska.specs.declared.ReplayAnswer.the-variants.{Reproduced}
+use Rattle.replay.specs.declared.CountedAnswer.{CountedAnswer}
+use Rattle.replay.specs.declared.CountedAnswer.the-variants.{Reproduced}
+use Rattle.minuska.proofs.Bridge.AcceptedLaw.{configuration-length}
 use Rattle.minuska.proofs.ShutLaw.{replay-is, replay-out-reproduced, replay-out-exceeded, replay-out-not, replay-choices-reproduced, replay-choices-exceeded, replay-choices-not}
 use Rattle.replay.specs.declared.search.Found.{Found}
 use Rattle.replay.specs.declared.search.Found.the-variants.{Path, Over, Nothing}
@@ -26,9 +27,10 @@ use Rattle.replay.specs.Reading.{tableOf, termOf}
 use Rattle.words.proofs.PartLaw.{drop-later}
 use Rattle.words.proofs.CopyLaw.{paste-start, same-zeros}
 use Rattle.memory.specs.Layout.{base, entered, Enters}
+use Rattle.replay.specs.Counted.{countedAnswer}
 use Rattle.replay.specs.Stack.{chosen}
 use Rattle.replay.specs.Turns.{termAt, positionAt, Framed, Sound, Held, MemoryOf, stateOf, Room, SearchSays, SearchContract}
-use Rattle.replay.specs.Endings.{SetsUp, restored, FoundWithin, endedAs, foundWords, choicesAfter, EndContract, AnswerContract}
+use Rattle.replay.specs.Endings.{SetsUp, restored, FoundWithin, concludedAs, foundWords, choicesAfter, EndContract, AnswerContract}
 use Rattle.replay.proofs.ReadingLaw.{is-term}
 use Rattle.replay.proofs.StackLaw as Stack
 use Rattle.replay.proofs.StackLaw.{chosen-long}
@@ -40,6 +42,10 @@ use Rattle.replay.proofs.FrameLaw.{in-top, entered-held, in-sound}
 written : (out cs : List ℤ) (ns : List ℕ) (g : Term) → encode (single g) ≡ cs → replayOut (gives (reproduced ns g)) out ≡ cs ++ drop (length cs) out
 written out cs ns g e = replay-out-reproduced out ns g ∙ ap (λ (c : List ℤ). write c out) e
 
+-- two words a node
+half-nodes : (cs : List ℤ) → Accepted cs → length cs / 2 ≡ nodeCount (termOf cs)
+half-nodes cs acc = omega (arith, configuration-length cs (termOf cs) (is-term cs acc))
+
 -- ---- the empty log
 empty : (l : List ℕ) → length l ≡ 0 → l ≡ []
 empty [] h = refl
@@ -49,12 +55,12 @@ replay-empty : (t : Table) (limit : ℕ) (log : List ℕ) (g : Term) → length 
 replay-empty t limit log g h = ap (λ (l : List ℕ). replay t limit l g) (empty log h) ∙ replay-is t limit [] g
 
 pub answer-empty : (ws cs : List ℤ) (log : List ℕ) (room : ℕ) (out : List ℤ) (choices : List ℕ) (work out′ work′ : List ℤ) → Accepted cs → length log ≡ 0
-    → out′ ≡ paste out 0 cs (length cs) → work′ ≡ writeZeros (base room (length log) + (room + 2)) work → AnswerContract ws cs log room out choices work out′ choices work′ Reproduced
-unfolding replayAnswer
+    → out′ ≡ paste out 0 cs (length cs) → work′ ≡ writeZeros (base room (length log) + (room + 2)) work → AnswerContract ws cs log room out choices work out′ choices work′ (Reproduced (length cs / 2))
+unfolding countedAnswer
 answer-empty ws cs log room out choices work out′ work′ acc h ho hw =
     let e = replay-empty (tableOf ws) (outLimit room) log (termOf cs) h in
     record {
-      answer = rw e;
+      answer = rw e (ap Reproduced (half-nodes cs acc));
       leaves = rw e (ho ∙ paste-start out cs ∙ sym (written out cs [] (termOf cs) (is-term cs acc .words)));
       leaves-choices = rw e (sym (replay-choices-reproduced choices [] (termOf cs)));
       leaves-work = hw;
@@ -168,25 +174,25 @@ module _ (ws : List ℤ) (index : List ℕ) (rules room : ℕ) (cs : List ℤ) (
       restored-is k q = back room k last out out′ work′ (drop (last + room) work) q (rm .out-fits) saved′ (found .kept .out-kept)
 
       module _ (choices : List ℕ) where
-        pub record Ends (x : Found) (y : ReplayResult Term) : Type 0 where
-          pub answer : endedAs x ≡ replayAnswer (gives y)
+        pub record Concludes (x : Found) (y : ReplayResult Term) : Type 0 where
+          pub answer : concludedAs x ≡ countedAnswer (gives y)
           pub leaves : restored room (foundWords x) last out′ work′ ≡ replayOut (gives y) out
           pub leaves-choices : choicesAfter x (order t) (length log) room work′ choices ≡ replayChoices (gives y) choices
 
-        ends : (x : Found) → SearchSays t rules room log opened out′ work′ x → Ends x (stateOf t room log opened false 0)
-        unfolding replayAnswer
+        ends : (x : Found) → SearchSays t rules room log opened out′ work′ x → Concludes x (stateOf t room log opened false 0)
+        unfolding countedAnswer
         ends (Path k) s =
             let z : length (take k out′) ≡ k = length-take-le k out′ (omega (arith, s .0 .fits, end-room .1)) in
             let ns : List ℕ = chosen (order t) (positionAt room work′) (length log) in
-            subst⁻¹ (Ends (Path k)) (s .1) (record {
-              answer = refl;
+            subst⁻¹ (Concludes (Path k)) (s .1) (record {
+              answer = ap Reproduced (ap (λ (m : ℕ). m / 2) (sym z) ∙ half-nodes (take k out′) (s .0 .accepted));
               leaves = restored-is k (s .0 .fits) ∙ ap (λ (m : ℕ). take k out′ ++ drop m out) (sym z) ∙ sym (written out (take k out′) ns (termOf (take k out′)) (is-term (take k out′) (s .0 .accepted) .words));
               leaves-choices = ap (λ (m : ℕ). ns ++ drop m choices) (sym (chosen-long (order t) (positionAt room work′) (length log))) ∙ sym (replay-choices-reproduced choices ns (termOf (take k out′)));
             })
-        ends Over s = subst⁻¹ (Ends Over) s (record { answer = refl; leaves = restored-is 0 (omega arith) ∙ sym (replay-out-exceeded out); leaves-choices = sym (replay-choices-exceeded choices) })
-        ends Nothing s = subst⁻¹ (Ends Nothing) s (record { answer = refl; leaves = restored-is 0 (omega arith) ∙ sym (replay-out-not out); leaves-choices = sym (replay-choices-not choices) })
+        ends Over s = subst⁻¹ (Concludes Over) s (record { answer = refl; leaves = restored-is 0 (omega arith) ∙ sym (replay-out-exceeded out); leaves-choices = sym (replay-choices-exceeded choices) })
+        ends Nothing s = subst⁻¹ (Concludes Nothing) s (record { answer = refl; leaves = restored-is 0 (omega arith) ∙ sym (replay-out-not out); leaves-choices = sym (replay-choices-not choices) })
 
-        pub answered : (out″ : List ℤ) (choices″ : List ℕ) (work″ : List ℤ) (r : ReplayAnswer) → EndContract ws f (length log) room out′ choices work′ out″ choices″ work″ r → AnswerContract ws cs log room out choices work out″ choices″ work″ r
+        pub answered : (out″ : List ℤ) (choices″ : List ℕ) (work″ : List ℤ) (r : CountedAnswer) → EndContract ws f (length log) room out′ choices work′ out″ choices″ work″ r → AnswerContract ws cs log room out choices work out″ choices″ work″ r
         answered out″ choices″ work″ r e =
-            let z : Ends f (replay t (outLimit room) log (termOf cs)) = subst (Ends f) opened-state (ends f (found .says)) in
+            let z : Concludes f (replay t (outLimit room) log (termOf cs)) = subst (Concludes f) opened-state (ends f (found .says)) in
             record { answer = e .answer ∙ z .answer; leaves = e .leaves ∙ z .leaves; leaves-choices = e .leaves-choices ∙ z .leaves-choices; leaves-work = e .leaves-work ∙ work-same }

@@ -6,7 +6,7 @@ use Prim.Native.Nat.{ℕ, _<_}
 use native.Mathlib.Omega.{arith}
 use lib.IntN.{ℤ}
 use lib.ListN.{length}
-use Rattle.replay.specs.declared.search.Turned.the-variants.{On, Beyond, Made, Ended}
+use Rattle.replay.specs.declared.search.Turned.the-variants.{On, Beyond, Made, Exhausted}
 use Rattle.replay.specs.declared.search.Found.the-variants.{Path, Over, Nothing}
 use Rattle.replay.specs.Reading.{tableOf}
 use Rattle.replay.specs.Stack.{mark}
@@ -44,11 +44,11 @@ module _ (ws : List ℤ) (index : List ℕ) (rules room : ℕ) (log : List ℕ) 
     find-made k c = record { kept = kept′ (c .kept); says = (c .says .0, h .same ∙ c .says .1 over) }
 
     -- the end: whether a successor above the limit was met
-    ended : (b : Bool) → over ≡ b → TurnContract ws rules room log d out work out′ work′ Ended → stateOf (tableOf ws) room log work₀ false 0 ≡ mark b
+    ended : (b : Bool) → over ≡ b → TurnContract ws rules room log d out work out′ work′ Exhausted → stateOf (tableOf ws) room log work₀ false 0 ≡ mark b
     ended b e c = h .same ∙ c .says over ∙ ap mark e
 
-    pub find-over : over ≡ true → TurnContract ws rules room log d out work out′ work′ Ended → SearchContract ws rules room log out₀ work₀ out′ work′ Over
+    pub find-over : over ≡ true → TurnContract ws rules room log d out work out′ work′ Exhausted → SearchContract ws rules room log out₀ work₀ out′ work′ Over
     find-over e c = record { kept = kept′ (c .kept); says = ended true e c }
 
-    pub find-nothing : over ≡ false → TurnContract ws rules room log d out work out′ work′ Ended → SearchContract ws rules room log out₀ work₀ out′ work′ Nothing
+    pub find-nothing : over ≡ false → TurnContract ws rules room log d out work out′ work′ Exhausted → SearchContract ws rules room log out₀ work₀ out′ work′ Nothing
     find-nothing e c = record { kept = kept′ (c .kept); says = ended false e c }

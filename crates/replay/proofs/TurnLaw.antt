@@ -23,7 +23,7 @@ use Rattle.minuska.specs.declared.StepAnswer.the-variants as S
 use Rattle.minuska.proofs.KeepLaw.{keeps-configuration}
 use Rattle.minuska.proofs.ReplayLaw.{next-iff}
 use Rattle.replay.specs.declared.search.Turned.{Turned}
-use Rattle.replay.specs.declared.search.Turned.the-variants.{On, Beyond, Made, Ended}
+use Rattle.replay.specs.declared.search.Turned.the-variants.{On, Beyond, Made, Exhausted}
 use Rattle.replay.specs.Reading.{tableOf, termOf}
 use Rattle.memory.specs.Layout.{base, wordsOf, Spare, advanced, Enters}
 use Rattle.memory.specs.Memory.{Keeps, Known}
@@ -71,7 +71,7 @@ module _ (ws : List ℤ) (index : List ℕ) (rules room : ℕ) (log : List ℕ) 
       same : Kept room (length log) out work out work
       same = record { long = refl; work-kept = refl; wide = refl; out-kept = refl }
 
-      pub turn-ended : d ≡ 0 → TurnContract ws rules room log d out work out work Ended
+      pub turn-ended : d ≡ 0 → TurnContract ws rules room log d out work out work Exhausted
       unfolding stateOf
       turn-ended e =
           let ends : (b : Bool) → stateOf t room log work b 0 ≡ mark b = λ b. Stack.turn-end nodeCount (outLimit room) (next t) (order t) log term position b (subst Nothing e nothing) in
@@ -262,10 +262,10 @@ module _ (ws : List ℤ) (index : List ℕ) (rules room : ℕ) (log : List ℕ) 
         unmoved : (r x : Turned) (w : List ℤ) → r ≡ x → w ≡ work₁ → length out′ ≡ length out → drop room out′ ≡ drop room out → TurnSays t rules room log d work out′ work₁ x → TurnContract ws rules room log d out work out′ w r
         unmoved r x w e f a b z = rw (e, f) (record { kept = kept work₁ long₁ behind₁ a b; says = z })
 
-        settled : (a : StepAnswer) → Tells (next t action rule (term d)) room out out′ a → (w : List ℤ) (r : Turned) → Settles a (length log) room d out′ work₁ w r → TurnContract ws rules room log d out work out′ w r
-        settled S.Stuck z w r k = unmoved r (On d) w (k .0) (k .1) (z .wide) (z .kept) (turned-none out′ (z .told))
-        settled (S.Refused x) z w r k = unmoved r Beyond w (k .0) (k .1) (z .wide) (z .kept) (turned-beyond out′ (z .told .0) (z .told .1) (z .told .2))
-        settled (S.Stepped m a n) z w r (inl k) =
+        settled : (a : StepAnswer) → Tells (next t action rule (term d)) room out out′ a → (remember : Bool) (w : List ℤ) (r : Turned) → Settles a (length log) room remember d out′ work₁ w r → TurnContract ws rules room log d out work out′ w r
+        settled S.Stuck z remember w r k = unmoved r (On d) w (k .0) (k .1) (z .wide) (z .kept) (turned-none out′ (z .told))
+        settled (S.Refused x) z remember w r k = unmoved r Beyond w (k .0) (k .1) (z .wide) (z .kept) (turned-beyond out′ (z .told .0) (z .told .1) (z .told .2))
+        settled (S.Stepped m a n) z remember w r (inl k) =
             let l : suc d < length log = omega (arith, k .0) in
             let ent : Enters room work₁ w (base room (suc d)) (take (2 * n) out′) = rw (add-one d) at (k .2) in
             let ks : Keeps room work₁ w (base room (suc d)) = rw (add-one d) at (k .3) in
@@ -274,11 +274,11 @@ module _ (ws : List ℤ) (index : List ℕ) (rules room : ℕ) (log : List ℕ) 
               kept = kept w (long₂ out′ (z .told .0) (z .told .1) (z .told .2) n (z .told .3) (z .told .4) l w ent ks) (behind₂ out′ (z .told .0) (z .told .1) (z .told .2) n (z .told .3) (z .told .4) l w ent ks) (z .wide) (z .kept);
               says = turned-down out′ (z .told .0) (z .told .1) (z .told .2) n (z .told .3) (z .told .4) l w ent ks;
             })
-        settled (S.Stepped m a n) z w r (inr (inl k)) =
+        settled (S.Stepped m a n) z remember w r (inr (inl k)) =
             let l : suc d < length log = omega (arith, k .0) in
-            let known : Known room work₁ (base room (suc d)) (take (2 * n) out′) = rw (add-one d) at (k .3) in
+            let known : Known room work₁ (base room (suc d)) (take (2 * n) out′) = rw (add-one d) at (k .4) in
             unmoved r (On d) w (k .1) (k .2) (z .wide) (z .kept) (turned-known out′ (z .told .0) (z .told .1) (z .told .2) n (z .told .3) (z .told .4) l known)
-        settled (S.Stepped m a n) z w r (inr (inr k)) =
+        settled (S.Stepped m a n) z remember w r (inr (inr k)) =
             unmoved r (Made (2 * n)) w (k .1) (k .2) (z .wide) (z .kept) (turned-made out′ (z .told .0) (z .told .1) (z .told .2) n (z .told .3) (z .told .4) (k .0))
 
       -- the same, of what `try_at` answers and leaves
@@ -286,9 +286,9 @@ module _ (ws : List ℤ) (index : List ℕ) (rules room : ℕ) (log : List ℕ) 
         tells : Tells (next t action rule (term d)) room out out′ r
         tells = tried-tells ws (wordsOf room work (base room d)) t (term d) good (is-term (wordsOf room work (base room d)) (s .frames d (omega arith) .accepted)) action rule room (k .carried found) out out′ r (rm .out-fits) tr
 
-        pub turned : (w : List ℤ) (x : Turned) → Settles r (length log) room d out′ (advanced room work (base room d) (q + 1)) w x → TurnContract ws rules room log d out work out′ w x
+        pub turned : (remember : Bool) (w : List ℤ) (x : Turned) → Settles r (length log) room remember d out′ (advanced room work (base room d) (q + 1)) w x → TurnContract ws rules room log d out work out′ w x
         unfolding work₁
-        turned w x k = settled out′ r tells w x k
+        turned remember w x k = settled out′ r tells remember w x k
 
         -- what `settle` asks of the answer, and of the frames
         within : (x : StepAnswer) → Tells (next t action rule (term d)) room out out′ x → MadeWithin x room (length out′)

@@ -3,6 +3,6 @@ pub mod Reading
 -- The search as a loop over frames.
 pub mod Stack
 -- What the routines promise.
-pub mod Sizes
+pub mod Counted
 pub mod Turns
 pub mod Endings

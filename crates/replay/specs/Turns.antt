@@ -17,7 +17,7 @@ use Rattle.minuska.specs.Bridge.Place.{Indexed, Accepted}
 use Rattle.minuska.specs.declared.StepAnswer.{StepAnswer}
 use Rattle.minuska.specs.declared.StepAnswer.the-variants as S
 use Rattle.replay.specs.declared.search.Turned.{Turned}
-use Rattle.replay.specs.declared.search.Turned.the-variants.{On, Beyond, Made, Ended}
+use Rattle.replay.specs.declared.search.Turned.the-variants.{On, Beyond, Made, Exhausted}
 use Rattle.replay.specs.declared.search.Found.{Found}
 use Rattle.replay.specs.declared.search.Found.the-variants.{Path, Over, Nothing}
 use Rattle.replay.specs.Reading.{tableOf, termOf}
@@ -106,15 +106,15 @@ MadeWithin (S.Stepped n a k) room out = (0 < k) × (2 * k ≤ room) × (2 * k �
 MadeWithin S.Stuck room out = Unit {0}
 MadeWithin (S.Refused r) room out = Unit {0}
 
--- a successor, so many words of out: it is entered; or passed over, since it is known; or the last
-abbrev pub Descends : ℕ → ℕ → ℕ → ℕ → List ℤ → List ℤ → List ℤ → Turned → Type 0
-Descends k m room d out work work′ r =
-    ((d + 1 < m) × (r ≡ On (d + 1)) × Enters room work work′ (base room (d + 1)) (take k out) × Keeps room work work′ (base room (d + 1))) ⊎ ((d + 1 < m) × (r ≡ On d) × (work′ ≡ work) × Known room work (base room (d + 1)) (take k out)) ⊎ ((m ≤ d + 1) × (r ≡ Made k) × (work′ ≡ work))
+-- a successor, so many words of out: it is entered; or passed over, since it is known and the search remembers; or the last
+abbrev pub Descends : ℕ → ℕ → ℕ → Bool → ℕ → List ℤ → List ℤ → List ℤ → Turned → Type 0
+Descends k m room remember d out work work′ r =
+    ((d + 1 < m) × (r ≡ On (d + 1)) × Enters room work work′ (base room (d + 1)) (take k out) × Keeps room work work′ (base room (d + 1))) ⊎ ((d + 1 < m) × (r ≡ On d) × (work′ ≡ work) × (remember ≡ true) × Known room work (base room (d + 1)) (take k out)) ⊎ ((m ≤ d + 1) × (r ≡ Made k) × (work′ ≡ work))
 
-abbrev pub Settles : StepAnswer → ℕ → ℕ → ℕ → List ℤ → List ℤ → List ℤ → Turned → Type 0
-Settles (S.Stepped n a k) m room d out work work′ r = Descends (2 * k) m room d out work work′ r
-Settles S.Stuck m room d out work work′ r = (r ≡ On d) × (work′ ≡ work)
-Settles (S.Refused x) m room d out work work′ r = (r ≡ Beyond) × (work′ ≡ work)
+abbrev pub Settles : StepAnswer → ℕ → ℕ → Bool → ℕ → List ℤ → List ℤ → List ℤ → Turned → Type 0
+Settles (S.Stepped n a k) m room remember d out work work′ r = Descends (2 * k) m room remember d out work work′ r
+Settles S.Stuck m room remember d out work work′ r = (r ≡ On d) × (work′ ≡ work)
+Settles (S.Refused x) m room remember d out work work′ r = (r ≡ Beyond) × (work′ ≡ work)
 
 -- ---- a path is found: k words of out are its last configuration, and each frame has tried a rule
 pub record Finds (rules room : ℕ) (log : List ℕ) (out work : List ℤ) (k : ℕ) : Type 0 where
@@ -139,7 +139,7 @@ TurnSays t rules room log d work out′ work′ Beyond =
     Sound rules room (length log) work′ d × Marks t room log d work work′ × (leftOf t room log work′ d < leftOf t room log work d)
 TurnSays t rules room log d work out′ work′ (Made k) =
     Finds rules room log out′ work′ k × ((b : Bool) → stateOf t room log work b d ≡ found t room log out′ work′ k)
-TurnSays t rules room log d work out′ work′ Ended = (b : Bool) → stateOf t room log work b d ≡ mark b
+TurnSays t rules room log d work out′ work′ Exhausted = (b : Bool) → stateOf t room log work b d ≡ mark b
 
 pub record TurnContract (ws : List ℤ) (rules room : ℕ) (log : List ℕ) (d : ℕ) (out work out′ work′ : List ℤ) (r : Turned) : Type 0 where
   pub kept : Kept room (length log) out work out′ work′

@@ -1,9 +1,9 @@
 // The search has ended: its answer, in the slices that are lent for it.
+use crate::CountedAnswer;
 use crate::search::Found;
 use memory::frame;
 use minuska::Index;
 use minuska::Refusal;
-use minuska::ReplayAnswer;
 ghost use mathlib.Core.Path.{_≡_};
 ghost use mathlib.Core.List.{_++_};
 ghost use Prim.Native.Nat.{ℕ, pred, _+_, _≤_, _<_};
@@ -72,7 +72,7 @@ pub fn conclude(
     out: &mut [i64],
     choices: &mut [u16],
     work: &mut [i64],
-) -> ReplayAnswer
+) -> CountedAnswer
     requires { ⌜ Indexed (now table) (now index) ⌝ }
     requires { ⌜ (base room actions + (room + 2) ≤ length (now work)) × (room ≤ length (now out)) × (room ≤ 65536) × (actions ≤ length (now choices)) ⌝ }
     requires { ⌜ FoundWithin found (length (order (tableOf (now table)))) actions room (now work) ⌝ }
@@ -83,15 +83,15 @@ pub fn conclude(
         Found::Path(words) => {
             write_choices(table, index, choices, work, room, actions);
             give_back(out, work, at, room, words);
-            ReplayAnswer::Reproduced
+            CountedAnswer::Reproduced(words / 2)
         }
         Found::Over => {
             give_back(out, work, at, room, 0);
-            ReplayAnswer::Refused(Refusal::OverLimit)
+            CountedAnswer::Refused(Refusal::OverLimit)
         }
         Found::Nothing => {
             give_back(out, work, at, room, 0);
-            ReplayAnswer::NotReproduced
+            CountedAnswer::NotReproduced
         }
     }
 }

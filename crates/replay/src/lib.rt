@@ -1,21 +1,31 @@
 // The replay: is there a path of rule steps, none above the limit, that yields a log of actions? It relies on the step's stated answer alone.
 mod ending;
 mod search;
-mod sizes;
 
 use memory::frame;
 use minuska::Check;
 use minuska::INDEX_LEN;
 use minuska::Index;
+use minuska::Refusal;
 use minuska::ReplayAnswer;
+use minuska::limits::MAX_ACTIONS;
 ghost use mathlib.Core.Path.{_≡_};
 ghost use Prim.Native.Nat.{_+_, _≤_};
 ghost use lib.ListN.{length};
 ghost use Rattle.minuska.specs.Bridge.Place.{Accepted};
 ghost use Rattle.minuska.specs.Contract.{ReplayContract};
+ghost use Rattle.minuska.specs.Computed.Outcome.{replayShort};
 ghost use Rattle.memory.specs.Layout.{base};
+ghost use Rattle.replay.specs.Counted.{uncounted, CountedContract};
 ghost use Rattle.replay.specs.Turns.{Room};
 ghost use Rattle.replay.specs.Endings.{SetsUp, AnswerContract};
+
+// A replay's answer with the node count of the last configuration, for crates above: document 01 has none in the answer itself.
+pub enum CountedAnswer {
+    Reproduced(usize),
+    NotReproduced,
+    Refused(Refusal),
+}
 
 // What out holds, kept in the frame at `last`; no other frame holds a configuration, but the first the initial one.
 fn set_up(
@@ -45,7 +55,7 @@ fn answer(
     out: &mut [i64],
     choices: &mut [u16],
     work: &mut [i64],
-) -> ReplayAnswer
+) -> CountedAnswer
     requires { ⌜ Room (now table) (now index) rules room (now log) (now out) (now work) ⌝ }
     requires { ⌜ (length (now configuration) ≤ room) × (length (now log) ≤ length (now choices)) ⌝ }
     requires { ⌜ Accepted (now configuration) ⌝ }
@@ -57,11 +67,72 @@ fn answer(
         words::copy(out, 0, configuration);
         let end = last + (room + 2);
         words::clear(&mut work[..end]);
-        return ReplayAnswer::Reproduced;
+        return CountedAnswer::Reproduced(configuration.len() / 2);
     }
     set_up(work, out, last, actions, room, configuration);
-    let found = search::find(table, index, log, rules, room, out, work);
+    let found = search::find(table, index, log, rules, room, true, out, work);
     ending::conclude(found, table, index, actions, room, out, choices, work)
+}
+
+// 5: whether a lent slice is shorter than stated.
+fn replay_short(log: &[u16], limit: usize, out: usize, choices: usize, work: usize) -> bool
+    ensures { λ r. ⌜ r ≡ replayShort limit (now (log .entry)) out choices work ⌝ }
+{
+    if sizes::lacks_nodes(out, limit) {
+        return true;
+    }
+    if choices < log.len() {
+        return true;
+    }
+    sizes::lacks_frames(work, log.len() + 1, limit)
+}
+
+// The replay, with the node count of its last configuration.
+pub fn replay_counted(
+    table: &[i64],
+    configuration: &[i64],
+    log: &[u16],
+    limit: usize,
+    out: &mut [i64],
+    choices: &mut [u16],
+    work: &mut [i64],
+) -> CountedAnswer
+    ensures { λ r. ⌜ CountedContract (now (table .entry)) (now (configuration .entry)) (now (log .entry)) limit (now (out .entry)) (now (choices .entry)) (now (work .entry)) (now (out .exit)) (now (choices .exit)) (now (work .exit)) r ⌝ }
+{
+    let mut index = [0usize; INDEX_LEN];
+    let accepted = step::accept(table, configuration, &mut index);
+    if let Check::Refused(refusal) = accepted {
+        return CountedAnswer::Refused(refusal);
+    }
+    let short = replay_short(log, limit, out.len(), choices.len(), work.len());
+    let nodes = configuration.len() / 2;
+    let sized = sizes::check_sizes(log.len(), MAX_ACTIONS, nodes, limit, short);
+    if let Check::Refused(refusal) = sized {
+        return CountedAnswer::Refused(refusal);
+    }
+    let rules = step::rule_count(table, &index);
+    answer(
+        table,
+        &index,
+        configuration,
+        log,
+        rules,
+        2 * limit,
+        out,
+        choices,
+        work,
+    )
+}
+
+// The answer without the count.
+fn uncounted(answer: CountedAnswer) -> ReplayAnswer
+    ensures { λ r. ⌜ r ≡ uncounted answer ⌝ }
+{
+    match answer {
+        CountedAnswer::Reproduced(_) => ReplayAnswer::Reproduced,
+        CountedAnswer::NotReproduced => ReplayAnswer::NotReproduced,
+        CountedAnswer::Refused(refusal) => ReplayAnswer::Refused(refusal),
+    }
 }
 
 // Refused; reproduced; over the limit, which is refusal 6; or not reproduced. The limit is in nodes.
@@ -76,32 +147,6 @@ pub fn replay(
 ) -> ReplayAnswer
     ensures { λ r. ⌜ ReplayContract (now (table .entry)) (now (configuration .entry)) (now (log .entry)) limit (now (out .entry)) (now (choices .entry)) (now (work .entry)) (now (out .exit)) (now (choices .exit)) (now (work .exit)) r ⌝ }
 {
-    let mut index = [0usize; INDEX_LEN];
-    let accepted = step::accept(table, configuration, &mut index);
-    if let Check::Refused(refusal) = accepted {
-        return ReplayAnswer::Refused(refusal);
-    }
-    let sized = sizes::check_sizes(
-        configuration.len(),
-        log.len(),
-        limit,
-        out.len(),
-        choices.len(),
-        work.len(),
-    );
-    if let Check::Refused(refusal) = sized {
-        return ReplayAnswer::Refused(refusal);
-    }
-    let rules = step::rule_count(table, &index);
-    answer(
-        table,
-        &index,
-        configuration,
-        log,
-        rules,
-        2 * limit,
-        out,
-        choices,
-        work,
-    )
+    let answer = replay_counted(table, configuration, log, limit, out, choices, work);
+    uncounted(answer)
 }

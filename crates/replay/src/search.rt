@@ -22,7 +22,7 @@ pub enum Turned {
     // The log is done: the last configuration, so many words, stands at the start of out.
     Made(usize),
     // No rule is left at the initial configuration.
-    Ended,
+    Exhausted,
 }
 
 // What the search finds.
@@ -71,11 +71,12 @@ fn try_at<'a>(
     step::apply_rule(table, index, configuration, rule, &mut out[..room])
 }
 
-// A successor, the first `words` words of out: it is entered, unless it is known or the last.
+// A successor, the first `words` words of out: it is entered, unless it is the last, or is known and the search remembers.
 fn descend(
     words: usize,
     actions: usize,
     room: usize,
+    remember: bool,
     depth: usize,
     out: &[i64],
     work: &mut [i64],
@@ -83,13 +84,13 @@ fn descend(
     requires { ⌜ (depth < actions) × (actions * (room + 2) ≤ length (now work)) × (room ≤ 65536) ⌝ }
     requires { ⌜ (0 < words) × (words ≤ room) × (words ≤ length (now out)) ⌝ }
     requires { ⌜ ((i : ℕ) → i < actions → Spare room (now work) (base room i)) ⌝ }
-    ensures { λ r. ⌜ Descends words actions room depth (now (out .entry)) (now (work .entry)) (now (work .exit)) r ⌝ }
+    ensures { λ r. ⌜ Descends words actions room remember depth (now (out .entry)) (now (work .entry)) (now (work .exit)) r ⌝ }
 {
     let next = depth + 1;
     if next < actions {
         let at = frame::base_at(room, next);
-        let tabled = memory::pays(actions - next);
-        if memory::known(work, at, room, tabled, &out[..words]) {
+        let tabled = memory::pays(remember, actions - next);
+        if memory::known(work, at, room, remember, tabled, &out[..words]) {
             return Turned::On(depth);
         }
         memory::enter(work, at, room, tabled, &out[..words]);
@@ -103,6 +104,7 @@ fn settle(
     answer: StepAnswer,
     actions: usize,
     room: usize,
+    remember: bool,
     depth: usize,
     out: &[i64],
     work: &mut [i64],
@@ -110,7 +112,7 @@ fn settle(
     requires { ⌜ (depth < actions) × (actions * (room + 2) ≤ length (now work)) × (room ≤ 65536) ⌝ }
     requires { ⌜ MadeWithin answer room (length (now out)) ⌝ }
     requires { ⌜ ((i : ℕ) → i < actions → Spare room (now work) (base room i)) ⌝ }
-    ensures { λ r. ⌜ Settles answer actions room depth (now (out .entry)) (now (work .entry)) (now (work .exit)) r ⌝ }
+    ensures { λ r. ⌜ Settles answer actions room remember depth (now (out .entry)) (now (work .entry)) (now (work .exit)) r ⌝ }
 {
     match answer {
         StepAnswer::Stuck => Turned::On(depth),
@@ -119,7 +121,7 @@ fn settle(
             rule: _,
             action: _,
             nodes,
-        } => descend(2 * nodes, actions, room, depth, out, work),
+        } => descend(2 * nodes, actions, room, remember, depth, out, work),
     }
 }
 
@@ -130,6 +132,7 @@ fn go_on(
     log: &[u16],
     rules: usize,
     room: usize,
+    remember: bool,
     depth: usize,
     position: usize,
     out: &mut [i64],
@@ -144,7 +147,7 @@ fn go_on(
     let at = frame::base_at(room, depth);
     let answer = try_at(table, index, position, room, at, out, work);
     frame::set_position(work, at, room, position + 1);
-    settle(answer, log.len(), room, depth, out, work)
+    settle(answer, log.len(), room, remember, depth, out, work)
 }
 
 // One turn at a depth: the next rule there that carries the action, or back by one.
@@ -154,6 +157,7 @@ fn turn(
     log: &[u16],
     rules: usize,
     room: usize,
+    remember: bool,
     depth: usize,
     out: &mut [i64],
     work: &mut [i64],
@@ -167,21 +171,34 @@ fn turn(
     let from = frame::position(work, at, room);
     let position = seek(table, index, log[depth], rules, from);
     if position < rules {
-        return go_on(table, index, log, rules, room, depth, position, out, work);
+        return go_on(
+            table,
+            index,
+            log,
+            rules,
+            room,
+            remember,
+            depth,
+            position,
+            out,
+            work,
+        );
     }
     if depth == 0 {
-        return Turned::Ended;
+        return Turned::Exhausted;
     }
-    Turned::On(depth - 1)
+    let above = depth - 1;
+    Turned::On(above)
 }
 
-// The search, from a configuration that is entered at depth 0.
+// The search, from a configuration that is entered at depth 0. Whether it remembers changes no answer: without, each rule that applies is followed.
 pub fn find(
     table: &[i64],
     index: &Index,
     log: &[u16],
     rules: usize,
     room: usize,
+    remember: bool,
     out: &mut [i64],
     work: &mut [i64],
 ) -> Found
@@ -194,7 +211,7 @@ pub fn find(
     let mut depth = 0;
     let mut over = false;
     loop {
-        let turned = turn(table, index, log, rules, room, depth, out, work);
+        let turned = turn(table, index, log, rules, room, remember, depth, out, work);
         match turned {
             Turned::On(next) => {
                 depth = next;
@@ -205,7 +222,7 @@ pub fn find(
             Turned::Made(words) => {
                 return Found::Path(words);
             }
-            Turned::Ended => {
+            Turned::Exhausted => {
                 if over {
                     return Found::Over;
                 }

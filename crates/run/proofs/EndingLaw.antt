@@ -18,7 +18,7 @@ use Rattle.minuska.proofs.ContractLaw.{run-contract}
 use Rattle.minuska.proofs.ShutLaw.{run-out-refused, run-out-gives, run-spare-refused, run-spare-gives}
 use Rattle.words.proofs.CopyLaw.{same-zeros}
 use Rattle.run.specs.declared.Ended.{Ended}
-use Rattle.run.specs.Turning.{chosen}
+use Rattle.run.specs.Sides.{bySide}
 use Rattle.run.specs.Ending.{Ends, Finishes}
 
 -- ---- words and zeros written from the start of a slice
@@ -49,10 +49,10 @@ module _ (ws cs : List ℤ) (budget limit : ℕ) (out spare : List ℤ) where
   outcome = runOutcome ws cs budget limit (length out) (length spare)
 
   pub ended : (r : Ended) (out₁ spare₁ out₂ spare₂ : List ℤ) → Ends ws cs budget limit out spare out₁ spare₁ r →
-      Finishes (2 * limit) (take (2 * r .nodes) (chosen (r .side) cs out₁ spare₁)) out₁ spare₁ out₂ spare₂ → RunContract ws cs budget limit out spare out₂ spare₂ (r .answer)
+      Finishes (2 * limit) (take (2 * r .nodes) (bySide (r .side) cs out₁ spare₁)) out₁ spare₁ out₂ spare₂ → RunContract ws cs budget limit out spare out₂ spare₂ (r .answer)
   ended r out₁ spare₁ out₂ spare₂ p q =
       let xs = encode (single (p .result .last)) in
-      let l = length-take-le (2 * r .nodes) (chosen (r .side) cs out₁ spare₁) (p .within) in
+      let l = length-take-le (2 * r .nodes) (bySide (r .side) cs out₁ spare₁) (p .within) in
       let m : length xs ≡ 2 * r .nodes = ap length (sym (p .last)) ∙ l in
       let f = p .fits in
       run-contract ws cs budget limit out spare out₂ spare₂ (r .answer) (p .answer ∙ ap runAnswer (sym (p .is)))

@@ -14,8 +14,8 @@ use Rattle.minuska.specs.Slice.{stepAnswer, endedAs, runAnswer}
 use Rattle.minuska.specs.Computed.Step.{step}
 use Rattle.minuska.specs.Computed.Run.{endedAt, oneMore, lastTurn, turn, run}
 use Rattle.minuska.proofs.ShutLaw.{run-zero-is, run-suc-is}
-use Rattle.run.specs.declared.Turned.the-variants.{On, End}
-use Rattle.run.specs.Turning.{judged}
+use Rattle.run.specs.declared.Verdict.the-variants.{On, End}
+use Rattle.run.specs.Sides.{judged}
 
 -- a run with k steps before it
 abbrev pub after : ℕ → RunResult → RunResult
@@ -31,7 +31,7 @@ not-end : (n : ℕ) (r : RunAnswer) → On n ≡ End r → ⊥
 not-end n r e = let z : _≡_ {A = ℕ} 0 1 = cc in omega arith
 
 -- A successor, where the budget is not used up.
-pub record Made (y : StepResult) (nodes k budget : ℕ) : Type 0 where
+pub record Succeeds (y : StepResult) (nodes k budget : ℕ) : Type 0 where
   pub rule : ℕ
   pub action : ℕ
   pub successor : Term
@@ -40,11 +40,11 @@ pub record Made (y : StepResult) (nodes k budget : ℕ) : Type 0 where
   pub early : k < budget
 
 module _ (k budget : ℕ) where
-  pub made : (y : StepResult) (nodes : ℕ) → judged (stepAnswer (gives y)) k budget ≡ On nodes → Made y nodes k budget
+  pub succeeds : (y : StepResult) (nodes : ℕ) → judged (stepAnswer (gives y)) k budget ≡ On nodes → Succeeds y nodes k budget
   unfolding stepAnswer
-  made y nodes j = by y (ltb k budget) refl j
+  succeeds y nodes j = by y (ltb k budget) refl j
     where
-      by : (y : StepResult) (b : Bool) → ltb k budget ≡ b → judged (stepAnswer (gives y)) k budget ≡ On nodes → Made y nodes k budget
+      by : (y : StepResult) (b : Bool) → ltb k budget ≡ b → judged (stepAnswer (gives y)) k budget ≡ On nodes → Succeeds y nodes k budget
       by (stepped n a h) true l j = let i = rw l at j in record { rule = n; action = a; successor = h; is = refl; counts = (cc); early = ltb-true k budget l }
       by (stepped n a h) false l j = absurd (not-end nodes _ (sym (rw l at j)))
       by stuck b l j = absurd (not-end nodes _ (sym j))

@@ -1,5 +1,5 @@
 pub mod RefusingLaw
-pub mod TurningLaw
+pub mod SidesLaw
 pub mod JudgedLaw
 pub mod ReachedLaw
 pub mod EndingLaw

@@ -24,11 +24,11 @@ use Rattle.minuska.proofs.ShutLaw.{step-outcome-is, step-out-stepped}
 use Rattle.minuska.proofs.Bridge.AcceptedLaw.{term-length, configuration-length}
 use Rattle.run.specs.declared.Side.{Side}
 use Rattle.run.specs.declared.Side.the-variants.{Initial}
-use Rattle.run.specs.declared.Turned.the-variants.{On, End}
-use Rattle.run.specs.Turning.{chosen, other, StartsWith, Turns, judged}
+use Rattle.run.specs.declared.Verdict.the-variants.{On, End}
+use Rattle.run.specs.Sides.{bySide, other, StartsWith, StepsAcross, judged}
 use Rattle.run.specs.Ending.{Ends}
-use Rattle.run.proofs.TurningLaw.{next-stands, current-keeps, both-behind, either}
-use Rattle.run.proofs.JudgedLaw.{after, after-none, made, steps-on, ends}
+use Rattle.run.proofs.SidesLaw.{next-stands, current-keeps, both-behind, either}
+use Rattle.run.proofs.JudgedLaw.{after, after-none, succeeds, steps-on, ends}
 
 -- a limit's words let a step write that many nodes
 limit-of-words : (limit : ℕ) → limit ≤ maxNodes → outLimit (2 * limit) ≡ limit
@@ -43,8 +43,8 @@ module _ (ws cs : List ℤ) (budget limit : ℕ) (out₀ spare₀ : List ℤ) wh
     pub table : Table
     pub isTable : IsTable ws table
     pub term : Term
-    pub is : IsConfiguration (take (2 * nodes) (chosen side cs out spare)) term
-    pub within : 2 * nodes ≤ length (chosen side cs out spare)
+    pub is : IsConfiguration (take (2 * nodes) (bySide side cs out spare)) term
+    pub within : 2 * nodes ≤ length (bySide side cs out spare)
     pub fits : nodes ≤ limit
     pub bounded : limit ≤ maxNodes
     pub counts : k ≤ budget
@@ -77,18 +77,18 @@ module _ (ws cs : List ℤ) (budget limit : ℕ) (out₀ spare₀ : List ℤ) wh
       }
 
   module _ (side : Side) (nodes k : ℕ) (out spare : List ℤ) (s : Reached side nodes k out spare) where
-    pub reached-holds : StartsWith (chosen side cs out spare) nodes
+    pub reached-holds : StartsWith (bySide side cs out spare) nodes
     reached-holds = record { accepted = record { term = s .term; is = s .is }; within = s .within }
 
     abbrev current : List ℤ
-    current = take (2 * nodes) (chosen side cs out spare)
+    current = take (2 * nodes) (bySide side cs out spare)
 
     steps : stepOutcome ws current (2 * limit) ≡ gives (step (s .table) limit (s .term))
     steps =
         step-outcome-is ws current (2 * limit) ∙ on-words ws current (s .table) (s .term) (s .isTable) (s .is) (λ t g. gives (step t (outLimit (2 * limit)) g)) ∙
         rw (limit-of-words limit (s .bounded))
 
-    module _ (out′ spare′ : List ℤ) (r : StepAnswer) (t : Turns ws cs side nodes (2 * limit) out spare out′ spare′ r) where
+    module _ (out′ spare′ : List ℤ) (r : StepAnswer) (t : StepsAcross ws cs side nodes (2 * limit) out spare out′ spare′ r) where
       answers : r ≡ stepAnswer (gives (step (s .table) limit (s .term)))
       answers = t .steps .answer ∙ ap stepAnswer steps
 
@@ -96,17 +96,17 @@ module _ (ws cs : List ℤ) (budget limit : ℕ) (out₀ spare₀ : List ℤ) wh
       pub reached-more : (n : ℕ) → judged r k budget ≡ On n → length out′ ≡ length out → length spare′ ≡ length spare → 2 * limit ≤ length out₀ → 2 * limit ≤ length spare₀ →
           Reached (other side) n (k + 1) out′ spare′
       reached-more n j o p ro rs =
-          let m = made k budget (step (s .table) limit (s .term)) n (rw answers at j) in
+          let m = succeeds k budget (step (s .table) limit (s .term)) n (rw answers at j) in
           let h = m .successor in
           let e = m .counts in
           let b = s .bounded in
           let q = step-meets (s .table) (s .isTable .accepted) limit (s .term) .steps (m .rule) (m .action) h .0 (m .is) in
           let f : nodeCount h ≤ limit = q .1 in
-          let to = take (2 * limit) (chosen side out spare out) in
-          let w : take (2 * limit) (chosen side out′ spare′ out′) ≡ write (encode (single h)) to =
+          let to = take (2 * limit) (bySide side out spare out) in
+          let w : take (2 * limit) (bySide side out′ spare′ out′) ≡ write (encode (single h)) to =
           t .steps .leaves ∙ ap (λ (o : Outcome StepResult). stepOut o to) (steps ∙ ap gives (m .is)) ∙ step-out-stepped to (m .rule) (m .action) h in
-          let x : take (2 * n) (chosen (other side) cs out′ spare′) ≡ encode (single h) =
-          ap (take (2 * n)) (next-stands side cs out′ spare′) ∙ front (encode (single h)) (chosen side out′ spare′ out′) to (2 * n) (2 * limit) (term-length h ∙ ap (λ (y : ℕ). 2 * y) e) (omega arith) w in
+          let x : take (2 * n) (bySide (other side) cs out′ spare′) ≡ encode (single h) =
+          ap (take (2 * n)) (next-stands side cs out′ spare′) ∙ front (encode (single h)) (bySide side out′ spare′ out′) to (2 * n) (2 * limit) (term-length h ∙ ap (λ (y : ℕ). 2 * y) e) (omega arith) w in
           let l = s .outLong in
           let v = s .spareLong in
           let z = both-behind (2 * limit) out spare out′ spare′ side (t .steps .behind) (t .keeps) in

@@ -10,15 +10,15 @@ use Rattle.minuska.specs.Answer.{gives, RunResult}
 use Rattle.minuska.specs.Slice.{writeZeros, writeFilled, runAnswer}
 use Rattle.minuska.specs.Computed.Outcome.{runOutcome}
 use Rattle.run.specs.declared.Ended.{Ended}
-use Rattle.run.specs.Turning.{chosen}
+use Rattle.run.specs.Sides.{bySide}
 
 -- the run's answer; its last configuration stands at the start of the slice that is named; the words behind the limit's keep
 pub record Ends (table config : List ℤ) (budget limit : ℕ) (out spare out′ spare′ : List ℤ) (r : Ended) : Type 0 where
   pub result : RunResult
   pub is : runOutcome table config budget limit (length out) (length spare) ≡ gives result
   pub answer : r .answer ≡ runAnswer (gives result)
-  pub last : take (2 * r .nodes) (chosen (r .side) config out′ spare′) ≡ encode (single (result .last))
-  pub within : 2 * r .nodes ≤ length (chosen (r .side) config out′ spare′)
+  pub last : take (2 * r .nodes) (bySide (r .side) config out′ spare′) ≡ encode (single (result .last))
+  pub within : 2 * r .nodes ≤ length (bySide (r .side) config out′ spare′)
   pub fits : r .nodes ≤ limit
   pub outBehind : drop (2 * limit) out′ ≡ drop (2 * limit) out
   pub spareBehind : drop (2 * limit) spare′ ≡ drop (2 * limit) spare

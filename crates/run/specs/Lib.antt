@@ -1,3 +1,3 @@
-pub mod Turning
-pub mod Refusing
+pub mod Sides
+pub mod Allowed
 pub mod Ending

@@ -2,18 +2,18 @@
 use minuska::Check;
 use minuska::INDEX_LEN;
 use minuska::Index;
-use minuska::Refusal;
 use minuska::RunAnswer;
 use minuska::StepAnswer;
+use minuska::limits::MAX_STEPS;
 ghost use mathlib.Core.Path.{_≡_};
 ghost use Prim.Native.Nat.{_*_, _/_, _≤_};
 ghost use lib.ListN.{length, take};
 ghost use Rattle.minuska.specs.Contract.{RunContract};
 ghost use Rattle.minuska.specs.Slice.{write};
-ghost use Rattle.minuska.specs.Computed.Outcome.{stepOutcome};
+ghost use Rattle.minuska.specs.Computed.Outcome.{stepOutcome, runShort};
 ghost use Rattle.minuska.specs.Bridge.Place.{Indexed, Accepted};
-ghost use Rattle.run.specs.Turning.{chosen, other, StartsWith, StepsInto, Turns, judged};
-ghost use Rattle.run.specs.Refusing.{runRefusal, Allowed};
+ghost use Rattle.run.specs.Sides.{bySide, other, StartsWith, StepsInto, StepsAcross, judged};
+ghost use Rattle.run.specs.Allowed.{Allowed};
 ghost use Rattle.run.specs.Ending.{Ends, Finishes};
 
 // Where the current configuration stands: as it was given, in out, or in spare.
@@ -23,8 +23,8 @@ enum Side {
     Spare,
 }
 
-// What a turn comes to: on, with a successor of so many nodes, or an end.
-enum Turned {
+// What a step's answer comes to: on, with a successor of so many nodes, or an end.
+enum Verdict {
     On(usize),
     End(RunAnswer),
 }
@@ -64,7 +64,7 @@ fn step_into<'a>(
 }
 
 // The step of the current configuration, written into the slice whose turn it is.
-fn turn<'a>(
+fn step_across<'a>(
     table: &'a [i64],
     index: &Index,
     configuration: &'a [i64],
@@ -74,8 +74,8 @@ fn turn<'a>(
     out: &mut [i64],
     spare: &mut [i64],
 ) -> StepAnswer
-    requires { ⌜ Indexed (now table) (now index) × StartsWith (chosen side (now configuration) (now out) (now spare)) nodes × (words ≤ length (now out)) × (words ≤ length (now spare)) ⌝ }
-    ensures { λ r. ⌜ Turns (now (table .entry)) (now (configuration .entry)) side nodes words (now (out .entry)) (now (spare .entry)) (now (out .exit)) (now (spare .exit)) r ⌝ }
+    requires { ⌜ Indexed (now table) (now index) × StartsWith (bySide side (now configuration) (now out) (now spare)) nodes × (words ≤ length (now out)) × (words ≤ length (now spare)) ⌝ }
+    ensures { λ r. ⌜ StepsAcross (now (table .entry)) (now (configuration .entry)) side nodes words (now (out .entry)) (now (spare .entry)) (now (out .exit)) (now (spare .exit)) r ⌝ }
 {
     match side {
         Side::Initial => step_into(table, index, configuration, nodes, out, words),
@@ -85,7 +85,7 @@ fn turn<'a>(
 }
 
 // What a step's answer comes to after k steps: at the budget's end a rule that applies, whatever its successor's size, is spent.
-fn judge(answer: StepAnswer, k: usize, budget: usize) -> Turned
+fn judge(answer: StepAnswer, k: usize, budget: usize) -> Verdict
     ensures { λ r. ⌜ r ≡ judged answer k budget ⌝ }
 {
     match answer {
@@ -95,16 +95,16 @@ fn judge(answer: StepAnswer, k: usize, budget: usize) -> Turned
             nodes,
         } => {
             if budget <= k {
-                return Turned::End(RunAnswer::Spent(k));
+                return Verdict::End(RunAnswer::Spent(k));
             }
-            Turned::On(nodes)
+            Verdict::On(nodes)
         }
-        StepAnswer::Stuck => Turned::End(RunAnswer::Stuck(k)),
+        StepAnswer::Stuck => Verdict::End(RunAnswer::Stuck(k)),
         StepAnswer::Refused(_) => {
             if k < budget {
-                return Turned::End(RunAnswer::Over(k));
+                return Verdict::End(RunAnswer::Over(k));
             }
-            Turned::End(RunAnswer::Spent(k))
+            Verdict::End(RunAnswer::Spent(k))
         }
     }
 }
@@ -127,15 +127,15 @@ fn advance<'a>(
     let mut nodes = configuration.len() / 2;
     let mut k = 0;
     loop {
-        let answer = turn(table, index, configuration, side, nodes, words, out, spare);
-        let turned = judge(answer, k, budget);
-        match turned {
-            Turned::On(made) => {
+        let answer = step_across(table, index, configuration, side, nodes, words, out, spare);
+        let verdict = judge(answer, k, budget);
+        match verdict {
+            Verdict::On(made) => {
                 side = other_side(side);
                 nodes = made;
                 k += 1;
             }
-            Turned::End(answer) => {
+            Verdict::End(answer) => {
                 return Ended {
                     answer,
                     side,
@@ -148,8 +148,8 @@ fn advance<'a>(
 
 // The last configuration is brought to the start of out, if it does not stand there.
 fn bring(side: Side, nodes: usize, configuration: &[i64], out: &mut [i64], spare: &[i64])
-    requires { ⌜ (2 * nodes ≤ length (chosen side (now configuration) (now out) (now spare))) × (2 * nodes ≤ length (now out)) ⌝ }
-    ensures { λ _. ⌜ now (out .exit) ≡ write (take (2 * nodes) (chosen side (now (configuration .entry)) (now (out .entry)) (now (spare .entry)))) (now (out .entry)) ⌝ }
+    requires { ⌜ (2 * nodes ≤ length (bySide side (now configuration) (now out) (now spare))) × (2 * nodes ≤ length (now out)) ⌝ }
+    ensures { λ _. ⌜ now (out .exit) ≡ write (take (2 * nodes) (bySide side (now (configuration .entry)) (now (out .entry)) (now (spare .entry)))) (now (out .entry)) ⌝ }
 {
     let end = 2 * nodes;
     match side {
@@ -168,8 +168,8 @@ fn finish(
     out: &mut [i64],
     spare: &mut [i64],
 )
-    requires { ⌜ (2 * nodes ≤ length (chosen side (now configuration) (now out) (now spare))) × (2 * nodes ≤ words) × (words ≤ length (now out)) × (words ≤ length (now spare)) ⌝ }
-    ensures { λ _. ⌜ Finishes words (take (2 * nodes) (chosen side (now (configuration .entry)) (now (out .entry)) (now (spare .entry)))) (now (out .entry)) (now (spare .entry)) (now (out .exit)) (now (spare .exit)) ⌝ }
+    requires { ⌜ (2 * nodes ≤ length (bySide side (now configuration) (now out) (now spare))) × (2 * nodes ≤ words) × (words ≤ length (now out)) × (words ≤ length (now spare)) ⌝ }
+    ensures { λ _. ⌜ Finishes words (take (2 * nodes) (bySide side (now (configuration .entry)) (now (out .entry)) (now (spare .entry)))) (now (out .entry)) (now (spare .entry)) (now (out .exit)) (now (spare .exit)) ⌝ }
 {
     bring(side, nodes, configuration, out, spare);
     let end = 2 * nodes;
@@ -177,24 +177,18 @@ fn finish(
     words::clear(&mut spare[..words]);
 }
 
-// Refusals 3, 4 and 5, in order, of a configuration with so many nodes.
-fn refusal(nodes: usize, budget: usize, limit: usize, out: usize, spare: usize) -> Check
-    ensures { λ r. ⌜ r ≡ runRefusal nodes budget limit out spare ⌝ }
+// 5: whether a lent slice does not hold the limit's nodes.
+fn run_short(limit: usize, out: usize, spare: usize) -> bool
+    ensures { λ r. ⌜ r ≡ runShort limit out spare ⌝ }
 {
-    if budget > 1000000 {
-        return Check::Refused(Refusal::TooLong);
+    if sizes::lacks_nodes(out, limit) {
+        return true;
     }
-    if limit == 0 || limit > 32768 || limit < nodes {
-        return Check::Refused(Refusal::BadLimit);
-    }
-    if out < 2 * limit || spare < 2 * limit {
-        return Check::Refused(Refusal::ShortBuffer);
-    }
-    Check::Good
+    sizes::lacks_nodes(spare, limit)
 }
 
-// The run of what no refusal turns back.
-fn run_accepted<'a>(
+// The run of checked words, where nothing is refused. A function on checked words, for crates above.
+pub fn run_accepted<'a>(
     table: &'a [i64],
     index: &Index,
     configuration: &'a [i64],
@@ -229,7 +223,8 @@ pub fn run<'a>(
         return RunAnswer::Refused(number);
     }
     let nodes = configuration.len() / 2;
-    if let Check::Refused(number) = refusal(nodes, budget, limit, out.len(), spare.len()) {
+    let short = run_short(limit, out.len(), spare.len());
+    if let Check::Refused(number) = sizes::check_sizes(budget, MAX_STEPS, nodes, limit, short) {
         return RunAnswer::Refused(number);
     }
     run_accepted(table, &index, configuration, budget, limit, out, spare)

@@ -1,11 +1,11 @@
 -- `run::advance` meets its contract: at the loop's head the run is k steps, which led here, and its rest. The measure is the budget left. Assumes nothing.
 use mathlib.Core.Path.{sym, _∙_}
-use Prim.Native.Nat.{_+_, _-_}
+use Prim.Native.Nat.{_+_, _-_, _*_, _/_, _≤_}
 use native.Mathlib.Omega.{arith}
 use lib.ListN.{length}
 use borrow.Author.Needs.{needs}
-use Rattle.run.specs.Turning.{other}
-use Rattle.run.proofs.RefusingLaw.{runs}
+use Rattle.run.specs.Sides.{other}
+use Rattle.run.proofs.RefusingLaw.{roomy, runs}
 use Rattle.run.proofs.ReachedLaw.{Reached, reached-first, reached-holds, reached-more, reached-end}
 use Rattle.run.proofs.advance.Statement.{statement}
 use Rattle.run.proofs.advance.Tie as tie
@@ -17,11 +17,15 @@ Inv-loop table index configuration budget limit out₀ spare₀ words side₀ no
 abbrev μ-loop : tie.MeasureT-loop
 μ-loop table index configuration budget limit out₀ spare₀ words side₀ nodes₀ k₀ out spare side nodes k = budget - k
 
--- src/lib.rt:147:17
+-- both slices hold the limit's words
+words-fit : (s : tie.Start Inv-loop μ-loop) → (2 * s .args .limit ≤ length (s .args .out .now)) × (2 * s .args .limit ≤ length (s .args .spare .now))
+words-fit s =
+    let a = s .args in
+    roomy (length (a .configuration .now) / 2) (a .budget) (a .limit) (length (a .out .now)) (length (a .spare .now)) (s .pre .2)
+
 mul-words : tie.Need-mul-words Inv-loop μ-loop
 mul-words c = let b = c .pre .2 .bounded in omega arith
 
--- src/lib.rt:151:5
 loop-holds : tie.Need-loop-holds Inv-loop μ-loop
 loop-holds c =
     let a = c .args in
@@ -31,28 +35,23 @@ loop-holds c =
     reached-first (a .table .now) (a .configuration .now) (a .budget) (a .limit) (a .out .now) (a .spare .now) (t .table) (g .term) (t .is) (g .is) (w .fits) (w .bounded)
     (runs (a .table .now) (a .configuration .now) (a .budget) (a .limit) (length (a .out .now)) (length (a .spare .now)) (t .table) (g .term) (t .is) (g .is) w)
 
--- src/lib.rt:152:13
-turn-requires : tie.Need-turn-requires Inv-loop μ-loop
-turn-requires c κs =
+step-across-requires : tie.Need-step-across-requires Inv-loop μ-loop
+step-across-requires c κs =
     let b = c .before .before in
     let a = b .before .args in
     let p = b .before .pre in
     let l = b .loop in
-    let w = p .2 .outWords in
-    let v = p .2 .spareWords in
+    let w = words-fit (b .before) in
     let o = l .inv .outLong in
     let s = l .inv .spareLong in
     (p .0, reached-holds (a .table .now) (a .configuration .now) (a .budget) (a .limit) (a .out .now) (a .spare .now) (l .side) (l .nodes) (l .k) (l .out) (l .spare) (l .inv), omega arith, omega arith)
 
--- src/lib.rt:153:13
 judge-requires : tie.Need-judge-requires Inv-loop μ-loop
 judge-requires c κs = search needs
 
--- src/lib.rt:155:24
-enum-known-turned : tie.Need-enum-known-turned Inv-loop μ-loop
-enum-known-turned c = search needs
+enum-known-verdict : tie.Need-enum-known-verdict Inv-loop μ-loop
+enum-known-verdict c = search needs
 
--- src/lib.rt:156:17
 other-side-requires : tie.Need-other-side-requires Inv-loop μ-loop
 other-side-requires c κs = search needs
 
@@ -61,8 +60,8 @@ next : (c : tie.After-other-side Inv-loop μ-loop) →
     let b = c .before .before .before .before .before .before .before in
     let l = b .before .before .before .loop in
     let a = b .before .before .before .before .args in
-    Reached (a .table .now) (a .configuration .now) (a .budget) (a .limit) (a .out .now) (a .spare .now) (other (l .side)) (c .before .before .turned .given .0 .0) (l .k + 1)
-    (b .turn .last .1 .1 .1 .1 .1 .1 .0) (b .turn .last .1 .1 .1 .1 .1 .1 .1 .0)
+    Reached (a .table .now) (a .configuration .now) (a .budget) (a .limit) (a .out .now) (a .spare .now) (other (l .side)) (c .before .before .verdict .given .0 .0) (l .k + 1)
+    (b .step-across .last .1 .1 .1 .1 .1 .1 .0) (b .step-across .last .1 .1 .1 .1 .1 .1 .1 .0)
 next c =
     let b = c .before .before .before .before .before .before .before in
     let l = b .before .before .before .loop in
@@ -70,10 +69,9 @@ next c =
     let a = s .args in
     let j = c .before .before .before .before .judge in
     reached-more (a .table .now) (a .configuration .now) (a .budget) (a .limit) (a .out .now) (a .spare .now) (l .side) (l .nodes) (l .k) (l .out) (l .spare) (l .inv)
-    (b .turn .last .1 .1 .1 .1 .1 .1 .0) (b .turn .last .1 .1 .1 .1 .1 .1 .1 .0) (b .turn .result) (b .turn .ensures) (c .before .before .turned .given .0 .0)
-    (sym (j .ensures) ∙ c .before .before .turned .given .1) (b .turn .kept .1 .1 .1 .1 .1 .1 .0) (b .turn .kept .1 .1 .1 .1 .1 .1 .1 .0) (s .pre .2 .outWords) (s .pre .2 .spareWords)
+    (b .step-across .last .1 .1 .1 .1 .1 .1 .0) (b .step-across .last .1 .1 .1 .1 .1 .1 .1 .0) (b .step-across .result) (b .step-across .ensures) (c .before .before .verdict .given .0 .0)
+    (sym (j .ensures) ∙ c .before .before .verdict .given .1) (b .step-across .kept .1 .1 .1 .1 .1 .1 .0) (b .step-across .kept .1 .1 .1 .1 .1 .1 .1 .0) (words-fit s .0) (words-fit s .1)
 
--- src/lib.rt:158:17
 add-k : tie.Need-add-k Inv-loop μ-loop
 add-k c =
     let b = c .before .before .before .before .before .before .before .before .before .before in
@@ -81,31 +79,25 @@ add-k c =
     let f = b .before .pre .2 .few in
     omega arith
 
--- src/lib.rt:151:5
 loop-less : tie.Need-loop-less Inv-loop μ-loop
 loop-less c = let e = next c .counts in omega arith
 
--- src/lib.rt:151:5
 loop-again : tie.Need-loop-again Inv-loop μ-loop
 loop-again c = rw (c .other-side .ensures) (next c)
 
--- src/lib.rt:160:25
-enum-known-turned-2 : tie.Need-enum-known-turned-2 Inv-loop μ-loop
-enum-known-turned-2 c = search needs
+enum-known-verdict-2 : tie.Need-enum-known-verdict-2 Inv-loop μ-loop
+enum-known-verdict-2 c = search needs
 
--- src/lib.rt:161:17
 same-length : tie.Need-same-length Inv-loop μ-loop
 same-length c =
     let b = c .before .before .before .before .before .before in
-    b .turn .kept .1 .1 .1 .1 .1 .1 .0 ∙ b .before .before .before .loop .inv .outLong
+    b .step-across .kept .1 .1 .1 .1 .1 .1 .0 ∙ b .before .before .before .loop .inv .outLong
 
--- src/lib.rt:161:17
 same-length-2 : tie.Need-same-length-2 Inv-loop μ-loop
 same-length-2 c =
     let b = c .before .before .before .before .before .before in
-    b .turn .kept .1 .1 .1 .1 .1 .1 .1 .0 ∙ b .before .before .before .loop .inv .spareLong
+    b .step-across .kept .1 .1 .1 .1 .1 .1 .1 .0 ∙ b .before .before .before .loop .inv .spareLong
 
--- src/lib.rt:161:17
 returns : tie.Need-returns Inv-loop μ-loop
 returns c =
     let b = c .before .before .before .before .before .before in
@@ -113,8 +105,8 @@ returns c =
     let a = b .before .before .before .before .args in
     let j = c .before .before .before .judge in
     reached-end (a .table .now) (a .configuration .now) (a .budget) (a .limit) (a .out .now) (a .spare .now) (l .side) (l .nodes) (l .k) (l .out) (l .spare) (l .inv)
-    (b .turn .last .1 .1 .1 .1 .1 .1 .0) (b .turn .last .1 .1 .1 .1 .1 .1 .1 .0) (b .turn .result) (b .turn .ensures) (c .before .turned2 .given .0 .0)
-    (sym (j .ensures) ∙ c .before .turned2 .given .1)
+    (b .step-across .last .1 .1 .1 .1 .1 .1 .0) (b .step-across .last .1 .1 .1 .1 .1 .1 .1 .0) (b .step-across .result) (b .step-across .ensures) (c .before .verdict2 .given .0 .0)
+    (sym (j .ensures) ∙ c .before .verdict2 .given .1)
 
 pub advance-spec : {M : Type 1} → statement M
 advance-spec =
@@ -124,14 +116,14 @@ advance-spec =
     μ-loop
     mul-words
     loop-holds
-    turn-requires
+    step-across-requires
     judge-requires
-    enum-known-turned
+    enum-known-verdict
     other-side-requires
     add-k
     loop-less
     loop-again
-    enum-known-turned-2
+    enum-known-verdict-2
     same-length
     same-length-2
     returns)

@@ -9,15 +9,15 @@ use lib.Seq.{length-take-le}
 use borrow.Author.Needs.{needs}
 use Rattle.run.specs.declared.Side.{Side}
 use Rattle.run.specs.declared.Side.the-variants.{Initial, Spare}
-use Rattle.run.specs.Turning.{chosen}
+use Rattle.run.specs.Sides.{bySide}
 use Rattle.minuska.specs.Slice.{write}
 use Rattle.words.proofs.CopyLaw.{paste-start}
-use Rattle.run.proofs.TurningLaw.{at-side}
+use Rattle.run.proofs.SidesLaw.{at-side}
 use Rattle.run.proofs.bring.Statement.{statement}
 use Rattle.run.proofs.bring.Tie as tie
 
 -- the slice of a known side is long enough
-fits : (b : tie.Start) (s : Side) → b .args .side ≡ s → 2 * b .args .nodes ≤ length (chosen s (b .args .configuration .now) (b .args .out .now) (b .args .spare .now))
+fits : (b : tie.Start) (s : Side) → b .args .side ≡ s → 2 * b .args .nodes ≤ length (bySide s (b .args .configuration .now) (b .args .out .now) (b .args .spare .now))
 fits b s e = at-side (b .args .configuration .now) (b .args .out .now) (b .args .spare .now) (b .args .side) (λ l. 2 * b .args .nodes ≤ length l) s e (b .pre .0)
 
 -- words over themselves

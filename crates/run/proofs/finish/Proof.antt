@@ -4,7 +4,7 @@ use native.Mathlib.Omega.{arith}
 use lib.ListN.{take, length-take}
 use lib.Seq.{length-take-le}
 use borrow.Author.Needs.{needs}
-use Rattle.run.specs.Turning.{chosen}
+use Rattle.run.specs.Sides.{bySide}
 use Rattle.words.proofs.CopyLaw.{zeros-front}
 use Rattle.run.proofs.EndingLaw.{zeros-behind}
 use Rattle.run.proofs.finish.Statement.{statement}
@@ -51,7 +51,7 @@ returns c =
     let k = c .before .before .before .before in
     let b = k .before .before .before .before .before .before in
     let a = b .args in
-    let last = chosen (a .side) (a .configuration .now) (a .out .now) (a .spare .now) in
+    let last = bySide (a .side) (a .configuration .now) (a .out .now) (a .spare .now) in
     record {
       leaves = zeros-behind (a .words) (2 * a .nodes) (take (2 * a .nodes) last) (a .out .now) (length-take-le (2 * a .nodes) last (b .pre .0)) (b .pre .1) (b .pre .2)
           (k .before .before .before .bring .last .1 .1 .1 .0) (k .clear .last .0) (k .before .before .before .bring .ensures) (k .clear .ensures);

@@ -1,4 +1,8 @@
 -- `run::run_accepted` meets its contract. Assumes nothing.
+use Prim.Native.Nat.{_/_}
+use native.Mathlib.Omega.{arith}
+use lib.ListN.{length}
+use Rattle.run.proofs.RefusingLaw.{roomy}
 use borrow.Author.Needs.{needs}
 use Rattle.run.proofs.EndingLaw.{ended}
 use Rattle.run.proofs.run_accepted.Statement.{statement}
@@ -11,7 +15,14 @@ mul-words : tie.Need-mul-words
 mul-words c = search needs
 
 finish-requires : tie.Need-finish-requires
-finish-requires c κs = search needs
+finish-requires c κs =
+    let d = c .before .before .before .before in
+    let s = d .before .before .before in
+    let a = s .args in
+    let w = roomy (length (a .configuration .now) / 2) (a .budget) (a .limit) (length (a .out .now)) (length (a .spare .now)) (s .pre .2) in
+    let e = d .advance .ensures in
+    let f = e .fits in
+    (e .within, omega arith, omega (arith, w .0, d .advance .kept), omega (arith, w .1, d .advance .kept))
 
 same-length : tie.Need-same-length
 same-length c = search needs

@@ -5,7 +5,7 @@ use native.Mathlib.Omega.{arith}
 use lib.ListN.{take, length-take}
 use lib.Seq.{length-take-le}
 use borrow.Author.Needs.{needs}
-use Rattle.run.proofs.TurningLaw.{steps-into}
+use Rattle.run.proofs.SidesLaw.{steps-into}
 use Rattle.run.proofs.step_into.Statement.{statement}
 use Rattle.run.proofs.step_into.Tie as tie
 

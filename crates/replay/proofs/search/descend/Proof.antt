@@ -52,7 +52,8 @@ same-length c = search needs
 returns : tie.Need-returns
 returns c =
     let b = c .before .before .before .before .before in
-    inr (inl (b .before .if1 .taken, refl, refl, rw (b .base-at .ensures) at (c .before .known .ensures (c .if2 .taken))))
+    let k = c .before .known .ensures (c .if2 .taken) in
+    inr (inl (b .before .if1 .taken, refl, refl, k .0, rw (b .base-at .ensures) at (k .1)))
 
 slice-aggregate-enter : tie.Need-slice-aggregate-enter
 slice-aggregate-enter c = sym (long (c .before .before .before .before .before .before .before .before))

@@ -4,7 +4,7 @@ use mathlib.Core.List.{List}
 use lib.IntN.{ℤ}
 use borrow.Author.Needs.{needs}
 use Rattle.replay.specs.declared.search.Turned.{Turned}
-use Rattle.replay.specs.declared.search.Turned.the-variants.{On, Beyond, Made, Ended}
+use Rattle.replay.specs.declared.search.Turned.the-variants.{On, Beyond, Made, Exhausted}
 use Rattle.replay.specs.Reading.{tableOf}
 use Rattle.replay.specs.Turns.{leftOf, TurnContract}
 use Rattle.replay.proofs.FindLaw.{Searching, find-start, find-on, find-beyond, find-made, find-over, find-nothing}
@@ -12,10 +12,10 @@ use Rattle.replay.proofs.search.find.Statement.{statement}
 use Rattle.replay.proofs.search.find.Tie as tie
 
 abbrev Inv-loop : tie.InvT-loop
-Inv-loop table index log rules room out₀ work₀ depth₀ over₀ out work depth over = Searching table index rules room log out₀ work₀ out work over depth
+Inv-loop table index log rules room remember out₀ work₀ depth₀ over₀ out work depth over = Searching table index rules room log out₀ work₀ out work over depth
 
 abbrev μ-loop : tie.MeasureT-loop
-μ-loop table index log rules room out₀ work₀ depth₀ over₀ out work depth over = leftOf (tableOf table) room log work depth
+μ-loop table index log rules room remember out₀ work₀ depth₀ over₀ out work depth over = leftOf (tableOf table) room log work depth
 
 loop-holds : tie.Need-loop-holds Inv-loop μ-loop
 loop-holds c =
@@ -28,10 +28,10 @@ turn-requires c κs = let v = c .before .before .loop .inv in (v .fits, (v .deep
 
 -- what the turn left, and what it says of its answer
 outAfter : tie.After-turn Inv-loop μ-loop → List ℤ
-outAfter u = u .turn .last .1 .1 .1 .1 .1 .1 .0
+outAfter u = u .turn .last .1 .1 .1 .1 .1 .1 .1 .0
 
 workAfter : tie.After-turn Inv-loop μ-loop → List ℤ
-workAfter u = u .turn .last .1 .1 .1 .1 .1 .1 .1 .0
+workAfter u = u .turn .last .1 .1 .1 .1 .1 .1 .1 .1 .0
 
 says : (u : tie.After-turn Inv-loop μ-loop) (r : Turned) → u .turn .result ≡ r → let h = u .before .before .before in let a = h .before .before .args in
     TurnContract (a .table .now) (a .rules) (a .room) (a .log .now) (h .loop .depth) (h .loop .out) (h .loop .work) (outAfter u) (workAfter u) r
@@ -103,7 +103,7 @@ returns-2 c =
     let u = c .before .before .before .before .before in
     let h = u .before .before .before in
     let a = h .before .before .args in
-    find-over (a .table .now) (a .index .now) (a .rules) (a .room) (a .log .now) (a .out .now) (a .work .now) (h .loop .out) (h .loop .work) (outAfter u) (workAfter u) (h .loop .over) (h .loop .depth) (h .loop .inv) (c .if1 .taken) (says u Ended (c .before .enum-told2 .given .1))
+    find-over (a .table .now) (a .index .now) (a .rules) (a .room) (a .log .now) (a .out .now) (a .work .now) (h .loop .out) (h .loop .work) (outAfter u) (workAfter u) (h .loop .over) (h .loop .depth) (h .loop .inv) (c .if1 .taken) (says u Exhausted (c .before .enum-told2 .given .1))
 
 same-length-5 : tie.Need-same-length-5 Inv-loop μ-loop
 same-length-5 c = search needs
@@ -117,7 +117,7 @@ returns-3 c =
     let u = c .before .before .before .before .before in
     let h = u .before .before .before in
     let a = h .before .before .args in
-    find-nothing (a .table .now) (a .index .now) (a .rules) (a .room) (a .log .now) (a .out .now) (a .work .now) (h .loop .out) (h .loop .work) (outAfter u) (workAfter u) (h .loop .over) (h .loop .depth) (h .loop .inv) (c .if1 .left) (says u Ended (c .before .enum-told2 .given .1))
+    find-nothing (a .table .now) (a .index .now) (a .rules) (a .room) (a .log .now) (a .out .now) (a .work .now) (h .loop .out) (h .loop .work) (outAfter u) (workAfter u) (h .loop .over) (h .loop .depth) (h .loop .inv) (c .if1 .left) (says u Exhausted (c .before .enum-told2 .given .1))
 
 pub find-spec : {M : Type 1} → statement M
 find-spec =

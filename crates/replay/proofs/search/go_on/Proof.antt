@@ -72,7 +72,7 @@ returns c =
     let a = s .args in
     let p = s .pre in
     turned (a .table .now) (a .index .now) (a .rules) (a .room) (a .log .now) (a .out .now) (a .work .now) (a .depth) (p .0) (p .1 .0 .0) (p .1 .1 .1) (a .position) (p .1 .1 .0) (p .1 .0 .1)
-    (k .try-at .last .1 .1 .1 .1 .1 .0) (k .try-at .result) (tried k) _ _ (rw (c .before .before .before .before .before .set-position .ensures, k .before .before .before .base-at .ensures) at (c .before .settle .ensures))
+    (k .try-at .last .1 .1 .1 .1 .1 .0) (k .try-at .result) (tried k) (a .remember) _ _ (rw (c .before .before .before .before .before .set-position .ensures, k .before .before .before .base-at .ensures) at (c .before .settle .ensures))
 
 pub go-on-spec : {M : Type 1} → statement M
 go-on-spec =

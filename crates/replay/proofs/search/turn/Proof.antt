@@ -72,8 +72,8 @@ returns-2 c =
     let p = s .pre in
     turn-ended (a .table .now) (a .index .now) (a .rules) (a .room) (a .log .now) (a .out .now) (a .work .now) (a .depth) (p .0) (p .1 .0) (p .1 .1) (k .seek .result) (sought k) (c .before .if1 .left) (c .if2 .taken)
 
-sub-t14 : tie.Need-sub-t14
-sub-t14 c = search needs
+sub-above : tie.Need-sub-above
+sub-above c = search needs
 
 same-length-4 : tie.Need-same-length-4
 same-length-4 c = search needs
@@ -102,6 +102,6 @@ turn-spec =
     returns
     same-length-3
     returns-2
-    sub-t14
+    sub-above
     same-length-4
     returns-3)

@@ -15,18 +15,18 @@ use Rattle.minuska.specs.Computed.Outcome.{stepOutcome}
 use Rattle.minuska.specs.Bridge.Place.{Accepted}
 use Rattle.run.specs.declared.Side.{Side}
 use Rattle.run.specs.declared.Side.the-variants.{Initial, Out, Spare}
-use Rattle.run.specs.declared.Turned.{Turned}
-use Rattle.run.specs.declared.Turned.the-variants.{On, End}
+use Rattle.run.specs.declared.Verdict.{Verdict}
+use Rattle.run.specs.declared.Verdict.the-variants.{On, End}
 
 -- one of three, by the side
-abbrev pub chosen : {A : Type 0} → Side → A → A → A → A
-chosen Initial initial out spare = initial
-chosen Out initial out spare = out
-chosen Spare initial out spare = spare
+abbrev pub bySide : {A : Type 0} → Side → A → A → A → A
+bySide Initial initial out spare = initial
+bySide Out initial out spare = out
+bySide Spare initial out spare = spare
 
 -- the side that a step from this one writes
 abbrev pub other : Side → Side
-other side = chosen side Out Spare Out
+other side = bySide side Out Spare Out
 
 -- a configuration of so many nodes stands at the start of a slice
 pub record StartsWith (ws : List ℤ) (nodes : ℕ) : Type 0 where
@@ -40,13 +40,13 @@ pub record StepsInto (o : Outcome StepResult) (words : ℕ) (to to′ : List ℤ
   pub behind : drop words to′ ≡ drop words to
 
 -- a turn: the step of the current configuration, into the other slice; the current one keeps
-pub record Turns (table config : List ℤ) (side : Side) (nodes words : ℕ) (out spare out′ spare′ : List ℤ) (r : StepAnswer) : Type 0 where
-  pub steps : StepsInto (stepOutcome table (take (2 * nodes) (chosen side config out spare)) words) words (chosen side out spare out) (chosen side out′ spare′ out′) r
-  pub keeps : chosen side spare′ out′ spare′ ≡ chosen side spare out spare
+pub record StepsAcross (table config : List ℤ) (side : Side) (nodes words : ℕ) (out spare out′ spare′ : List ℤ) (r : StepAnswer) : Type 0 where
+  pub steps : StepsInto (stepOutcome table (take (2 * nodes) (bySide side config out spare)) words) words (bySide side out spare out) (bySide side out′ spare′ out′) r
+  pub keeps : bySide side spare′ out′ spare′ ≡ bySide side spare out spare
 
 -- What a step's answer after k steps comes to. "It ends stuck after k steps, or spent if k equals the budget and some rule still applies, or with 6 if
 -- k is below the budget and the next successor exceeds N nodes."
-abbrev pub judged : StepAnswer → ℕ → ℕ → Turned
+abbrev pub judged : StepAnswer → ℕ → ℕ → Verdict
 judged (S.Stepped rule action nodes) k budget = cond (ltb k budget) (On nodes) (End (R.Spent k))
 judged S.Stuck k budget = End (R.Stuck k)
 judged (S.Refused r) k budget = cond (ltb k budget) (End (R.Over k)) (End (R.Spent k))

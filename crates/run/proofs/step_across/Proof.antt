@@ -1,15 +1,15 @@
--- `run::turn` meets its contract: on each side the step reads the current configuration and writes the other slice. Assumes nothing.
+-- `run::step_across` meets its contract: on each side the step reads the current configuration and writes the other slice. Assumes nothing.
 use mathlib.Core.Path.{_≡_, refl}
 use borrow.Author.Needs.{needs}
 use Rattle.run.specs.declared.Side.{Side}
 use Rattle.run.specs.declared.Side.the-variants.{Initial, Out, Spare}
-use Rattle.run.specs.Turning.{chosen, StartsWith}
-use Rattle.run.proofs.TurningLaw.{at-side, turns-at}
-use Rattle.run.proofs.turn.Statement.{statement}
-use Rattle.run.proofs.turn.Tie as tie
+use Rattle.run.specs.Sides.{bySide, StartsWith}
+use Rattle.run.proofs.SidesLaw.{at-side, across-at}
+use Rattle.run.proofs.step_across.Statement.{statement}
+use Rattle.run.proofs.step_across.Tie as tie
 
 -- what is asked of the slice that a known side reads
-reads-from : (b : tie.Start) (s : Side) → b .args .side ≡ s → StartsWith (chosen s (b .args .configuration .now) (b .args .out .now) (b .args .spare .now)) (b .args .nodes)
+reads-from : (b : tie.Start) (s : Side) → b .args .side ≡ s → StartsWith (bySide s (b .args .configuration .now) (b .args .out .now) (b .args .spare .now)) (b .args .nodes)
 reads-from b s e = at-side (b .args .configuration .now) (b .args .out .now) (b .args .spare .now) (b .args .side) (λ l. StartsWith l (b .args .nodes)) s e (b .pre .1)
 
 enum-told : tie.Need-enum-told
@@ -44,7 +44,7 @@ returns c =
     let s = c .before .step-into in
     let b = c .before .before .before .before .before in
     let a = b .args in
-    turns-at (a .configuration .now) (a .out .now) (a .spare .now) (a .side) (a .table .now) (s .last .1 .1 .1 .1 .0) (a .spare .now) (a .nodes) (a .words) (s .result) Initial
+    across-at (a .configuration .now) (a .out .now) (a .spare .now) (a .side) (a .table .now) (s .last .1 .1 .1 .1 .0) (a .spare .now) (a .nodes) (a .words) (s .result) Initial
     (c .before .before .before .enum-told .given .1) (s .ensures) refl
 
 same-length-2 : tie.Need-same-length-2
@@ -58,7 +58,7 @@ returns-2 c =
     let s = c .before .step-into2 in
     let b = c .before .before .before .before .before .before in
     let a = b .args in
-    turns-at (a .configuration .now) (a .out .now) (a .spare .now) (a .side) (a .table .now) (a .out .now) (s .last .1 .1 .1 .1 .0) (a .nodes) (a .words) (s .result) Out
+    across-at (a .configuration .now) (a .out .now) (a .spare .now) (a .side) (a .table .now) (a .out .now) (s .last .1 .1 .1 .1 .0) (a .nodes) (a .words) (s .result) Out
     (c .before .before .before .before .enum-told2 .given .1) (s .ensures) refl
 
 same-length-4 : tie.Need-same-length-4
@@ -72,11 +72,11 @@ returns-3 c =
     let s = c .before .step-into3 in
     let b = c .before .before .before .before .before .before in
     let a = b .args in
-    turns-at (a .configuration .now) (a .out .now) (a .spare .now) (a .side) (a .table .now) (s .last .1 .1 .1 .1 .0) (a .spare .now) (a .nodes) (a .words) (s .result) Spare
+    across-at (a .configuration .now) (a .out .now) (a .spare .now) (a .side) (a .table .now) (s .last .1 .1 .1 .1 .0) (a .spare .now) (a .nodes) (a .words) (s .result) Spare
     (c .before .before .before .before .enum-told3 .given .1) (s .ensures) refl
 
-pub turn-spec : {M : Type 1} → statement M
-turn-spec =
+pub step-across-spec : {M : Type 1} → statement M
+step-across-spec =
     tie.close
     (tie.spec
     enum-told
