@@ -30,13 +30,6 @@ pub record RuleAt (ws cs : List ℤ) (n : ℕ) (rule : Rule) (g : Term) : Type 0
   pub numbered : getElem? table n ≡ some rule
   pub configuration : IsConfiguration cs g
 
--- a number that names a rule
-pub record Names (ws : List ℤ) (n : ℕ) : Type 0 where
-  pub table : Table
-  pub is : IsTable ws table
-  pub rule : Rule
-  pub numbered : getElem? table n ≡ some rule
-
 -- its left matches the configuration under ρ, and the two arrays hold where ρ's terms stand
 pub record Matched (ws cs : List ℤ) (n : ℕ) (starts ends : List ℕ) (rule : Rule) (g : Term) (ρ : Valuation) : Type 0 where
   pub at : RuleAt ws cs n rule g

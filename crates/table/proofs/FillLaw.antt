@@ -20,7 +20,7 @@ use Rattle.minuska.specs.declared.Refusal.the-variants.{BadTable}
 use Rattle.minuska.specs.Slice.{write}
 use Rattle.minuska.specs.Computed.Read.{numberBelow, isEmpty, readRule, readRules, readTable}
 use Rattle.minuska.specs.Computed.Outcome.{checked, tableCheck}
-use Rattle.minuska.specs.Bridge.Place.{rulePlaces, placesFrom, places, Indexed}
+use Rattle.minuska.specs.Bridge.Place.{perRule, indexLength, rulePlaces, placesFrom, places, Indexed}
 use Rattle.minuska.proofs.Tests.{came, provided-some, and-right, true-of}
 use Rattle.minuska.proofs.TableLaw.{read-table-iff}
 use Rattle.table.specs.Number.{naturalOf}
@@ -64,7 +64,7 @@ places-found (n ∷ ws) t e =
     ap (λ (c : Bool). cond c (placesCounted (numberBelow 257 n) ws) []) (true-of l (and-right (isEmpty (b .0 .1)) l (w .0))) ∙
     (ap (λ (o : Option ℕ). placesCounted o ws) (a .1) ∙ (places-read (a .0) 1 ws (b .0) (b .1) ∙ ap places (w .1)))
 
-pub places-length : (at : ℕ) (t : Table) → length (placesFrom at t) ≡ 4 * length t
+pub places-length : (at : ℕ) (t : Table) → length (placesFrom at t) ≡ perRule * length t
 places-length at [] = refl
 places-length at (r ∷ t) = let e = places-length (at + length (ruleWords r)) t in omega arith
 
@@ -77,7 +77,7 @@ index-contract ws old index r e f = record { answer = e; leaves = f; indexed = �
     pick none q g = absurd (never (cc))
     pick (some t) q g =
         let p : index ≡ write (places t) old = f ∙ ap (λ (xs : List ℕ). write xs old) (places-found ws t q) in
-        record { table = t; is = read-table-iff ws t .0 q; indexed = ap (take (4 * length t)) p ∙ take-at (places t) (drop (length (places t)) old) (4 * length t) (places-length 1 t) }
+        record { table = t; is = read-table-iff ws t .0 q; indexed = ap (take (perRule * length t)) p ∙ take-at (places t) (drop (length (places t)) old) (perRule * length t) (places-length 1 t) }
 
 -- ---- the table's first word
 abbrev restCheck : Option (Table × List ℤ) → Check
@@ -87,9 +87,9 @@ restCheck (some p) = cond (isEmpty (p .1)) Good bad
 -- the loop: rule number `rule` is to be read at a place
 pub record Reached (ws : List ℤ) (old index : List ℕ) (count rule at : ℕ) : Type 0 where
   pub check : tableCheck ws ≡ restCheck (readRules (count - rule) (drop at ws))
-  pub found : placesFound ws ≡ take (4 * rule) index ++ placesRead (count - rule) at (drop at ws)
-  pub kept : drop (4 * rule) index ≡ drop (4 * rule) old
-  pub long : 1024 ≤ length index
+  pub found : placesFound ws ≡ take (perRule * rule) index ++ placesRead (count - rule) at (drop at ws)
+  pub kept : drop (perRule * rule) index ≡ drop (perRule * rule) old
+  pub long : indexLength ≤ length index
   pub few : count ≤ 256
   pub below : rule ≤ count
 
@@ -186,7 +186,7 @@ module _ (ws : List ℤ) (old : List ℕ) where
   pub refused-count : 256 < naturalOf (getD ws 0 (pos 0)) → IndexTableContract ws old old bad
   refused-count h = unread ws old (many-rules ws h)
 
-  pub starts : 0 < length ws → length ws ≤ 65536 → naturalOf (getD ws 0 (pos 0)) ≤ 256 → 1024 ≤ length old → Reached ws old old (naturalOf (getD ws 0 (pos 0))) 0 1
+  pub starts : 0 < length ws → length ws ≤ 65536 → naturalOf (getD ws 0 (pos 0)) ≤ 256 → indexLength ≤ length old → Reached ws old old (naturalOf (getD ws 0 (pos 0))) 0 1
   starts h l c r =
       let t = counted ws h l c in
       let n = naturalOf (getD ws 0 (pos 0)) in
@@ -207,10 +207,10 @@ module _ (ws : List ℤ) (old : List ℕ) where
         let l = r .long in
         let f = r .few in
         let b = r .below in
-        let p : placesFound ws ≡ take (4 * rule) index = r .found ∙ (ap (λ (xs : List ℕ). take (4 * rule) index ++ xs) e ∙ append-nil (take (4 * rule) index)) in
-        let n : length (placesFound ws) ≡ 4 * rule = ap length p ∙ length-take-le (4 * rule) index (omega arith) in
-        sym (ap (λ (xs : List ℕ). xs ++ drop (length (placesFound ws)) old) p ∙ (ap (λ (k : ℕ). take (4 * rule) index ++ drop k old) n ∙
-        (ap (λ (xs : List ℕ). take (4 * rule) index ++ xs) (sym (r .kept)) ∙ take-append-drop (4 * rule) index)))
+        let p : placesFound ws ≡ take (perRule * rule) index = r .found ∙ (ap (λ (xs : List ℕ). take (perRule * rule) index ++ xs) e ∙ append-nil (take (perRule * rule) index)) in
+        let n : length (placesFound ws) ≡ perRule * rule = ap length p ∙ length-take-le (perRule * rule) index (omega arith) in
+        sym (ap (λ (xs : List ℕ). xs ++ drop (length (placesFound ws)) old) p ∙ (ap (λ (k : ℕ). take (perRule * rule) index ++ drop k old) n ∙
+        (ap (λ (xs : List ℕ). take (perRule * rule) index ++ xs) (sym (r .kept)) ∙ take-append-drop (perRule * rule) index)))
 
     module _ (h : rule < count) where
       one : count - rule ≡ suc (count - (rule + 1))
@@ -223,31 +223,31 @@ module _ (ws : List ℤ) (old : List ℕ) where
           (sym (r .check ∙ (ap (λ (n : ℕ). restCheck (readRules n (drop at ws))) one ∙ ap (λ (o : Option (Rule × List ℤ)). restCheck (o >>= ruleThen k)) e)))
           (closed (ap (λ (n : ℕ). placesRead n at (drop at ws)) one ∙ ap (λ (o : Option (Rule × List ℤ)). placesThen at o (λ i xs. placesRead k i xs)) e))
 
-      pub goes-on : (right conditions end : ℕ) → RuleAt ws at right conditions end → Reached ws old (sets index (4 * rule) (at ∷ right ∷ conditions ∷ end ∷ [])) count (rule + 1) end
+      pub goes-on : (right conditions end : ℕ) → RuleAt ws at right conditions end → Reached ws old (sets index (perRule * rule) (at ∷ right ∷ conditions ∷ end ∷ [])) count (rule + 1) end
       goes-on right conditions end p =
           let k = count - (rule + 1) in
           let vs : List ℕ = at ∷ right ∷ conditions ∷ end ∷ [] in
           let l = r .long in
           let f = r .few in
-          let room : 4 * rule + length vs ≤ length index = omega arith in
-          let next : 4 * (rule + 1) ≡ 4 * rule + length vs = omega arith in
+          let room : perRule * rule + length vs ≤ length index = omega arith in
+          let next : perRule * (rule + 1) ≡ perRule * rule + length vs = omega arith in
           let rest : List ℕ = placesRead k end (drop end ws) in
-          let new : List ℕ = sets index (4 * rule) vs in
-          let n = length-sets index (4 * rule) vs in
+          let new : List ℕ = sets index (perRule * rule) vs in
+          let n = length-sets index (perRule * rule) vs in
           record {
             check =
                 r .check ∙ (ap (λ (n : ℕ). restCheck (readRules n (drop at ws))) one ∙
                 (ap (λ (o : Option (Rule × List ℤ)). restCheck (o >>= ruleThen k)) (p .read) ∙ more-is (p .rule) (readRules k (drop end ws))));
             found =
-                r .found ∙ (ap (λ (xs : List ℕ). take (4 * rule) index ++ xs)
+                r .found ∙ (ap (λ (xs : List ℕ). take (perRule * rule) index ++ xs)
                 (ap (λ (n : ℕ). placesRead n at (drop at ws)) one ∙ (ap (λ (o : Option (Rule × List ℤ)). placesThen at o (λ i xs. placesRead k i xs)) (p .read) ∙
                 (ap (λ (xs : List ℕ). xs ++ placesRead k (at + length (ruleWords (p .rule))) (drop end ws)) (p .places) ∙
                 ap (λ (i : ℕ). vs ++ placesRead k i (drop end ws)) (rule-length at right conditions end (p .rule) (p .places))))) ∙
-                (sym (append-assoc (take (4 * rule) index) vs rest) ∙
-                ap (λ (xs : List ℕ). xs ++ rest) (sym (take-stored index (4 * rule) vs room) ∙ ap (λ (i : ℕ). take i new) (sym next))));
+                (sym (append-assoc (take (perRule * rule) index) vs rest) ∙
+                ap (λ (xs : List ℕ). xs ++ rest) (sym (take-stored index (perRule * rule) vs room) ∙ ap (λ (i : ℕ). take i new) (sym next))));
             kept =
-                ap (λ (i : ℕ). drop i new) next ∙ (drop-stored index (4 * rule) vs room ∙ (sym (drop-drop (length vs) (4 * rule) index) ∙
-                (ap (drop (length vs)) (r .kept) ∙ (drop-drop (length vs) (4 * rule) old ∙ ap (λ (i : ℕ). drop i old) (sym next)))));
+                ap (λ (i : ℕ). drop i new) next ∙ (drop-stored index (perRule * rule) vs room ∙ (sym (drop-drop (length vs) (perRule * rule) index) ∙
+                (ap (drop (length vs)) (r .kept) ∙ (drop-drop (length vs) (perRule * rule) old ∙ ap (λ (i : ℕ). drop i old) (sym next)))));
             long = omega arith;
             few = f;
             below = omega arith;

@@ -1,5 +1,5 @@
 -- A checked table and its index, as code reads them: the rule count, which numbers name a rule, a rule's action.
--- (`minuska`'s IndexLaw: the words are one table only, the four numbers of a rule, and what stands there.)
+-- (`minuska`'s IndexLaw: the words are one table only, a rule's row, and what stands there.)
 use mathlib.Core.Path.{_≡_, refl, sym, _∙_, ap, subst⁻¹}
 use mathlib.Core.Bool.{Bool, true, false}
 use mathlib.Core.Logic.{_↔_}
@@ -13,10 +13,10 @@ use lib.ListN.{length, getD, getElem?}
 use borrow.Author.Tests.{leb-true, leb-false}
 use Rattle.minuska.specs.Rule.{Rule, Table, IsTable}
 use Rattle.minuska.specs.Computed.Step.{upFrom, order}
-use Rattle.minuska.specs.Bridge.Place.{Indexed, RuleCountIs, ActionIs, OrderedIs}
+use Rattle.minuska.specs.Bridge.Place.{Stands, headerWords, leftWords, rightWords, conditionsWords, rightFrom, perRule, Indexed, Names, PartIs, RuleCountIs, ActionIs, OrderedIs}
 use Rattle.minuska.proofs.Good.{good}
 use Rattle.minuska.proofs.Bridge.PlaceLaw.{stands-head}
-use Rattle.minuska.proofs.Bridge.IndexLaw.{one-table, RulePlaced, rule-placed}
+use Rattle.minuska.proofs.Bridge.IndexLaw.{one-table, RulePlaced, rule-placed, left-stands, right-stands, conditions-stand}
 use Rattle.minuska.proofs.Bridge.PositionLaw.{element-there, few-rules, order-length}
 use Rattle.minuska.proofs.StepLaw.{rule-okay}
 use Rattle.minuska.proofs.OrderLaw.{named-below}
@@ -69,16 +69,16 @@ module _ (ws : List ℤ) (index : List ℕ) (x : Indexed ws index) (count : ℕ)
         let f = few-rules (x .table) (x .is .accepted) in
         omega arith
 
-    pub start-inside : getD index (4 * n) 0 < length ws
-    start-inside = let e = placed .places .first in let s = placed .stands .within in omega arith
+    pub start-inside : getD index (perRule * n + 0) 0 < length ws
+    start-inside = let e = placed .numbers 0 (omega arith) in let s = placed .stands .within in omega arith
 
-    action-word : getD ws (getD index (4 * n) 0) (pos 0) ≡ pos (the-rule .action)
-    action-word = ap (λ (i : ℕ). getD ws i (pos 0)) (placed .places .first) ∙ stands-head (placed .stands) (pos 0)
+    action-word : getD ws (getD index (perRule * n + 0) 0) (pos 0) ≡ pos (the-rule .action)
+    action-word = ap (λ (i : ℕ). getD ws i (pos 0)) (placed .numbers 0 (omega arith)) ∙ stands-head (placed .stands) (pos 0)
 
-    pub action-low : naturalOf (getD ws (getD index (4 * n) 0) (pos 0)) < 65536
+    pub action-low : naturalOf (getD ws (getD index (perRule * n + 0) 0) (pos 0)) < 65536
     action-low = subst⁻¹ (λ (z : ℤ). naturalOf z < 65536) action-word (good the-rule (rule-okay (x .table) (x .is .accepted) n the-rule numbered) .action)
 
-    pub action-is : ActionIs ws n (naturalOf (getD ws (getD index (4 * n) 0) (pos 0)))
+    pub action-is : ActionIs ws n (naturalOf (getD ws (getD index (perRule * n + 0) 0) (pos 0)))
     action-is =
         record {
           is = λ t r p e.
@@ -86,6 +86,40 @@ module _ (ws : List ℤ) (index : List ℕ) (x : Indexed ws index) (count : ℕ)
               ap naturalOf action-word ∙ ap (λ (q : Rule). q .action) (Option·some-injective the-rule r (sym same ∙ e));
           other = λ t p e. absurd (Option·none-ne-some (names-iff ws t count n c p .1 h .0) (sym e ∙ names-iff ws t count n c p .1 h .1));
         }
+
+-- ---- where the parts of a rule stand, by its row
+module _ (ws : List ℤ) (index : List ℕ) (n : ℕ) (x : Indexed ws index) where
+  pub named-small : Names ws n → n < 256
+  named-small a = let h = named-below (a .table) n (a .rule) (a .numbered) in let k = few-rules (a .table) (a .is .accepted) in omega arith
+
+  pub header-within : Names ws n → getD index (perRule * n + 0) 0 + headerWords ≤ length ws
+  header-within a =
+      let o = rule-placed ws index (a .table) n (a .rule) x (a .is) (a .numbered) in
+      let e = o .numbers 0 (omega arith) in
+      let s = o .stands .within in
+      omega arith
+
+  part-is : {words : Rule → List ℤ} {from to : ℕ} → ((r : Rule) → RulePlaced ws index n r → Stands ws from (words r) × (to ≡ from + length (words r))) → PartIs words ws n from to
+  part-is f = record { stands = λ t r p e. f r (rule-placed ws index t n r x p e) .0; ends = λ t r p e. f r (rule-placed ws index t n r x p e) .1 }
+
+  module _ (from to : ℕ) where
+    pub left-is : from ≡ getD index (perRule * n + 0) 0 → to ≡ getD index (perRule * n + 1) 0 → PartIs leftWords ws n (from + headerWords) to
+    left-is p q =
+        part-is (λ r o.
+        let a = p ∙ o .numbers 0 (omega arith) in
+        (subst⁻¹ (λ (k : ℕ). Stands ws (k + headerWords) (leftWords r)) a (left-stands ws index n r o), q ∙ (o .numbers 1 (omega arith) ∙ ap (λ (k : ℕ). rightFrom k r) (sym a))))
+
+    pub right-is : from ≡ getD index (perRule * n + 1) 0 → to ≡ getD index (perRule * n + 2) 0 → PartIs rightWords ws n from to
+    right-is p q =
+        part-is (λ r o.
+        let a = p ∙ o .numbers 1 (omega arith) in
+        (subst⁻¹ (λ (k : ℕ). Stands ws k (rightWords r)) a (right-stands ws index n r o), q ∙ (o .numbers 2 (omega arith) ∙ ap (λ (k : ℕ). k + length (rightWords r)) (sym a))))
+
+    pub conditions-are : from ≡ getD index (perRule * n + 2) 0 → to ≡ getD index (perRule * n + 3) 0 → PartIs conditionsWords ws n from to
+    conditions-are p q =
+        part-is (λ r o.
+        let a = p ∙ o .numbers 2 (omega arith) in
+        (subst⁻¹ (λ (k : ℕ). Stands ws k (conditionsWords r)) a (conditions-stand ws index n r o), q ∙ (o .numbers 3 (omega arith) ∙ ap (λ (k : ℕ). k + length (conditionsWords r)) (sym a))))
 
 -- ---- the order of rules, by position
 up-at : (i k q n : ℕ) → getElem? (upFrom i k) q ≡ some n → i + q ≡ n

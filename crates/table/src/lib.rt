@@ -1,6 +1,7 @@
 // The table's check, and the index: where the parts of each rule stand.
 mod expression;
 mod fill;
+pub mod index;
 mod node;
 mod number;
 mod rule;
@@ -24,7 +25,7 @@ pub fn check_table(table: &[i64]) -> Check
     index_table(table, &mut index)
 }
 
-// The same, and the index: four numbers a rule, its start, its right, its conditions and its end.
+// The same, and the index.
 pub fn index_table(table: &[i64], index: &mut Index) -> Check
     ensures { λ r. ⌜ IndexTableContract (now (table .entry)) (now (index .entry)) (now (index .exit)) r ⌝ }
 {
@@ -48,7 +49,7 @@ pub fn action(table: &[i64], index: &Index, rule: usize) -> u16
     if rule_count(table, index) <= rule {
         return 0;
     }
-    let at = index[4 * rule];
+    let at = index::number(index, rule, index::START);
     natural(term::word(table, at)) as u16
 }
 

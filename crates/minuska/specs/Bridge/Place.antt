@@ -43,14 +43,43 @@ pub record BoundAt (config : List ℤ) (start end v : ℕ) (t : Term) : Type 0 w
 pub record Binds (config : List ℤ) (starts ends : List ℕ) (ρ : Valuation) : Type 0 where
   pub places : (v : ℕ) (t : Term) → ρ v ≡ some t → BoundAt config (getD starts v 0) (getD ends v 0) v t
 
--- Where the parts of a rule stand, if the rule starts at a place: the rule (its action), its right, its conditions, and its end.
-abbrev pub rulePlaces : ℕ → Rule → List ℕ
-rulePlaces at r =
-    let right : ℕ = at + 2 + length (encode (single (r .left))) in
-    let conditions : ℕ = right + length (encode (single (r .right))) in
-    at ∷ right ∷ conditions ∷ (conditions + length (conditionWords (r .conditions))) ∷ []
+-- The parts of a rule, as words. In front of them stand its header words: its action and its condition count.
+abbrev pub headerWords : ℕ
+headerWords = 2
 
--- The index of a table: four numbers a rule, the first rule at word 1.
+abbrev pub leftWords : Rule → List ℤ
+leftWords r = encode (single (r .left))
+
+abbrev pub rightWords : Rule → List ℤ
+rightWords r = encode (single (r .right))
+
+abbrev pub conditionsWords : Rule → List ℤ
+conditionsWords r = conditionWords (r .conditions)
+
+-- Where they start, if the rule starts at a place; and where the rule ends.
+abbrev pub leftFrom : ℕ → ℕ
+leftFrom at = at + headerWords
+
+abbrev pub rightFrom : ℕ → Rule → ℕ
+rightFrom at r = leftFrom at + length (leftWords r)
+
+abbrev pub conditionsFrom : ℕ → Rule → ℕ
+conditionsFrom at r = rightFrom at r + length (rightWords r)
+
+abbrev pub endFrom : ℕ → Rule → ℕ
+endFrom at r = conditionsFrom at r + length (conditionsWords r)
+
+-- THE LAYOUT OF A TABLE'S INDEX: so many numbers a rule, in this order; the first rule stands at word 1.
+abbrev pub perRule : ℕ
+perRule = 4
+
+-- room for 256 rules
+abbrev pub indexLength : ℕ
+indexLength = 1024
+
+abbrev pub rulePlaces : ℕ → Rule → List ℕ
+rulePlaces at r = at ∷ rightFrom at r ∷ conditionsFrom at r ∷ endFrom at r ∷ []
+
 abbrev pub placesFrom : ℕ → Table → List ℕ
 placesFrom at [] = []
 placesFrom at (r ∷ rs) = rulePlaces at r ++ placesFrom (at + length (ruleWords r)) rs
@@ -62,7 +91,19 @@ places table = placesFrom 1 table
 pub record Indexed (ws : List ℤ) (index : List ℕ) : Type 0 where
   pub table : Table
   pub is : IsTable ws table
-  pub indexed : take (4 * length table) index ≡ places table
+  pub indexed : take (perRule * length table) index ≡ places table
+
+-- a number that names a rule
+pub record Names (ws : List ℤ) (n : ℕ) : Type 0 where
+  pub table : Table
+  pub is : IsTable ws table
+  pub rule : Rule
+  pub numbered : getElem? table n ≡ some rule
+
+-- A part of rule number n stands from one place up to another, in whatever table the words are.
+pub record PartIs (words : Rule → List ℤ) (ws : List ℤ) (n from to : ℕ) : Type 0 where
+  pub stands : (table : Table) (rule : Rule) → IsTable ws table → getElem? table n ≡ some rule → Stands ws from (words rule)
+  pub ends : (table : Table) (rule : Rule) → IsTable ws table → getElem? table n ≡ some rule → to ≡ from + length (words rule)
 
 -- What the routines on checked words say of any table that the words are. Its rule count; the action of a number that names a rule, of any other 0; the
 -- rule at a position of the order in which rules are tried, at any other a number that names no rule.

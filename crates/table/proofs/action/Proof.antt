@@ -1,13 +1,13 @@
 use borrow.Author.Needs.{needs}
 use mathlib.Core.Path.{_≡_, _∙_, ap, subst⁻¹}
-use Prim.Native.Nat.{_*_, _<_}
+use Prim.Native.Nat.{ℕ, _+_, _*_, _<_}
 use native.Mathlib.Omega.{arith}
 use lib.IntN.{pos}
 use lib.ListN.{getD}
 use mir.Val.{SFits}
 use mir.Syntax.{w64}
 use Rattle.table.specs.Number.{naturalOf}
-use Rattle.minuska.specs.Bridge.Place.{ActionIs}
+use Rattle.minuska.specs.Bridge.Place.{perRule, ActionIs}
 use Rattle.table.proofs.NumberLaw.{via}
 use Rattle.table.proofs.IndexLaw.{no-rule, number-small, start-inside, action-low, action-is}
 use Rattle.table.proofs.action.Statement.{statement}
@@ -16,8 +16,8 @@ use Rattle.table.proofs.action.Tie as tie
 small : (c : tie.Else1) → c .before .before .args .rule < 256
 small c = number-small (c .before .before .args .table .now) (c .before .before .args .index .now) (c .before .before .pre) (c .before .rule-count .result) (c .before .rule-count .ensures) (c .before .before .args .rule) (c .if1 .left)
 
-number-is : (c : tie.After-natural) → c .natural .result ≡ naturalOf (getD (c .before .before .before .before .before .args .table .now) (getD (c .before .before .before .before .before .args .index .now) (4 * c .before .before .before .before .before .args .rule) 0) (pos 0))
-number-is c = let f : SFits w64 (c .before .word .result) = search needs in via naturalOf f (c .natural .ensures) ∙ ap naturalOf (c .before .word .ensures)
+number-is : (c : tie.After-natural) → c .natural .result ≡ naturalOf (getD (c .before .before .before .before .before .args .table .now) (getD (c .before .before .before .before .before .args .index .now) (perRule * c .before .before .before .before .before .args .rule + 0) 0) (pos 0))
+number-is c = let f : SFits w64 (c .before .word .result) = search needs in via naturalOf f (c .natural .ensures) ∙ ap naturalOf (c .before .word .ensures ∙ ap (λ (i : ℕ). getD (c .before .before .before .before .before .args .table .now) i (pos 0)) (c .before .before .number .ensures))
 
 rule-count-requires : tie.Need-rule-count-requires
 rule-count-requires c κs = search needs
@@ -25,17 +25,11 @@ rule-count-requires c κs = search needs
 returns : tie.Need-returns
 returns c = no-rule (c .before .before .args .table .now) (c .before .before .args .index .now) (c .before .before .pre) (c .before .rule-count .result) (c .before .rule-count .ensures) (c .before .before .args .rule) (c .if1 .taken)
 
-mul-at : tie.Need-mul-at
-mul-at c = let h = small c in omega arith
-
-mul-at-2 : tie.Need-mul-at-2
-mul-at-2 c = let h = small c in omega arith
-
-element-copy-out-at : tie.Need-element-copy-out-at
-element-copy-out-at c = let h = small c in omega arith
+number-requires : tie.Need-number-requires
+number-requires c κs = (small c, omega arith)
 
 word-requires : tie.Need-word-requires
-word-requires c κs = start-inside (c .before .before .before .args .table .now) (c .before .before .before .args .index .now) (c .before .before .before .pre) (c .before .before .rule-count .result) (c .before .before .rule-count .ensures) (c .before .before .before .args .rule) (c .before .if1 .left)
+word-requires c κs = rw (c .number .ensures) (start-inside (c .before .before .before .args .table .now) (c .before .before .before .args .index .now) (c .before .before .before .pre) (c .before .before .rule-count .result) (c .before .before .rule-count .ensures) (c .before .before .before .args .rule) (c .before .if1 .left))
 
 natural-requires : tie.Need-natural-requires
 natural-requires c κs = search needs
@@ -52,9 +46,7 @@ action-spec =
     (tie.spec
     rule-count-requires
     returns
-    mul-at
-    mul-at-2
-    element-copy-out-at
+    number-requires
     word-requires
     natural-requires
     cast-result

@@ -8,6 +8,7 @@ use lib.Seq.{length-sets}
 use mir.Val.{SFits}
 use mir.Syntax.{w64}
 use borrow.Author.Needs.{needs}
+use Rattle.minuska.specs.Bridge.Place.{perRule}
 use Rattle.table.specs.Number.{naturalOf}
 use Rattle.table.specs.Rule.{RuleIs}
 use Rattle.table.proofs.NumberLaw.{via}
@@ -93,7 +94,7 @@ loop-again c =
     let end = c .before .before .before .before .before .right .given .0 .1 .1 .0 in
     let count = c .before .before .before .before .before .before .before .before .before .before .before .natural .result in
     let e = c .before .before .put .ensures in (
-      ap length e ∙ (length-sets (l .index) (4 * l .rule) (l .at ∷ right ∷ conditions ∷ end ∷ []) ∙ l .inv .0),
+      ap length e ∙ (length-sets (l .index) (perRule * l .rule) (l .at ∷ right ∷ conditions ∷ end ∷ []) ∙ l .inv .0),
       subst⁻¹ (λ (x : List ℕ). Reached ws old x count (l .rule + 1) end) e
           (goes-on ws old (l .index) count (l .rule) (l .at) (l .inv .1) (c .before .before .before .before .before .before .before .before .loop-test .taken) right conditions end (subst (RuleIs ws (l .at)) (c .before .before .before .before .before .right .given .1) (c .before .before .before .before .before .before .before .rule-parts .ensures))),
     )
