@@ -17,7 +17,7 @@ use Rattle.minuska.specs.Rule.{Rule, Table, okRule, okCondition, IsTable}
 use Rattle.minuska.specs.Computed.Match.{unbound}
 use Rattle.minuska.specs.Computed.Value.{value}
 use Rattle.minuska.specs.Bridge.Walk.{emit}
-use Rattle.minuska.specs.Bridge.Place.{Names, Accepted, leftWords, rightWords, conditionsWords, PartIs}
+use Rattle.minuska.specs.Bridge.Place.{Names, Accepted, rootTag, RootMeets, leftWords, rightWords, conditionsWords, PartIs}
 use Rattle.minuska.proofs.Tests.{and-left, and-right}
 use Rattle.minuska.proofs.Good.{good, good-condition}
 use Rattle.minuska.proofs.StepLaw.{rule-okay}
@@ -25,7 +25,7 @@ use Rattle.minuska.proofs.MatchLaw.{match-sound, matches-binds}
 use Rattle.minuska.proofs.ConditionLaw.{has-value}
 use Rattle.minuska.proofs.Bridge.PlaceLaw.{stands-head, stands-word}
 use Rattle.minuska.proofs.Bridge.WriteLaw.{emit-values}
-use Rattle.step.specs.Apply.{RuleAt, Matched, SomeMatched, MatchIs, rootTag, RootMeets, RootIs, HoldIs, MeasureIs, WordsFit, WriteIs}
+use Rattle.step.specs.Apply.{RuleAt, Matched, SomeMatched, MatchIs, RootIs, HoldIs, MeasureIs, WordsFit, WriteIs}
 use Rattle.step.specs.Matching.{IsLeft, LeftIn, MatchContract}
 use Rattle.step.specs.Conditions.{Sides, Conditions, SomeConditions, HoldAllIs}
 use Rattle.step.specs.Right.{Rest, SomeRest, MeasureRightIs, FittingRest, WriteRightIs}

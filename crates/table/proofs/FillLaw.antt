@@ -1,5 +1,5 @@
 -- The loop over a table's rules: what it has checked and written so far, and what it answers.
-use mathlib.Core.Path.{_≡_, refl, sym, _∙_, ap}
+use mathlib.Core.Path.{_≡_, refl, sym, _∙_, ap, ap₂}
 use mathlib.Core.Bool.{Bool, true, false, _&&_, cond, and-false}
 use mathlib.Core.Option.{Option, none, some, Option·some-injective}
 use mathlib.Core.List.{List, [], _∷_, _++_, append-assoc, append-nil}
@@ -11,21 +11,21 @@ use lib.ListN.{length, take, drop, getD, length-append, length-drop, take-append
 use lib.Seq.{length-take-le, take-at, drop-at, drop-drop, sets, sets-eq, length-sets}
 use borrow.Author.Tests.{le-leb, lt-leb}
 use Rattle.minuska.specs.Basics.{_>>=_, provided}
-use Rattle.minuska.specs.Term.{single}
-use Rattle.minuska.specs.Word.{encode}
-use Rattle.minuska.specs.Rule.{Rule, Table, conditionWords, ruleWords}
+use Rattle.minuska.specs.Rule.{Rule, Table, ruleWords}
 use Rattle.minuska.specs.declared.Check.{Check}
 use Rattle.minuska.specs.declared.Check.the-variants.{Good, Refused}
 use Rattle.minuska.specs.declared.Refusal.the-variants.{BadTable}
 use Rattle.minuska.specs.Slice.{write}
 use Rattle.minuska.specs.Computed.Read.{numberBelow, isEmpty, readRule, readRules, readTable}
 use Rattle.minuska.specs.Computed.Outcome.{checked, tableCheck}
-use Rattle.minuska.specs.Bridge.Place.{perRule, indexLength, rulePlaces, placesFrom, places, Indexed}
+use Rattle.minuska.specs.Bridge.Place.{Stands, leftWords, rightWords, conditionsWords, leftFrom, keyOf, rootKey, perRule, indexLength, rulePlaces, placesFrom, places, Indexed}
 use Rattle.minuska.proofs.Tests.{came, provided-some, and-right, true-of}
-use Rattle.minuska.proofs.TableLaw.{read-table-iff}
+use Rattle.minuska.proofs.Good.{good}
+use Rattle.minuska.proofs.TableLaw.{rule-read, read-table-iff}
+use Rattle.minuska.proofs.Bridge.PlaceLaw.{stands-of, stands-head, stands-word}
 use Rattle.table.specs.Number.{naturalOf}
 use Rattle.table.specs.Rule.{RuleAt}
-use Rattle.table.specs.Index.{placesThen, placesRead, placesCounted, placesFound, IndexTableContract}
+use Rattle.table.specs.Index.{placesThen, placesRead, placesCounted, placesFound, rowOf, RowFits, IndexTableContract}
 use Rattle.table.proofs.BasicLaw.{none-after, never}
 use Rattle.table.proofs.NumberLaw.{below-not, below-yes}
 
@@ -92,6 +92,7 @@ pub record Reached (ws : List ℤ) (old index : List ℕ) (count rule at : ℕ) 
   pub long : indexLength ≤ length index
   pub few : count ≤ 256
   pub below : rule ≤ count
+  pub short : length ws ≤ 65536
 
 -- ---- words that are no table before any rule is read
 module _ (ws : List ℤ) (old : List ℕ) where
@@ -152,15 +153,59 @@ more-is : (r : Rule) (o : Option (Table × List ℤ)) → restCheck (o >>= moreT
 more-is r none = refl
 more-is r (some p) = refl
 
-rule-length : (at right conditions end : ℕ) (r : Rule) → rulePlaces at r ≡ at ∷ right ∷ conditions ∷ end ∷ [] → at + length (ruleWords r) ≡ end
-rule-length at right conditions end r e =
-    let a = encode (single (r .left)) in
-    let b = encode (single (r .right)) in
-    let c = conditionWords (r .conditions) in
-    let p : at + 2 + length a + length b + length c ≡ end = cc in
-    let n = length-append a (b ++ c) in
-    let m = length-append b c in
-    omega arith
+module _ (ws : List ℤ) (at right conditions end : ℕ) (p : RuleAt ws at right conditions end) where
+  abbrev r : Rule
+  r = p .rule
+
+  rule-length : at + length (ruleWords r) ≡ end
+  rule-length =
+      let a = leftWords r in
+      let b = rightWords r in
+      let c = conditionsWords r in
+      let e = p .endIs in
+      let n = length-append a (b ++ c) in
+      let m = length-append b c in
+      omega arith
+
+  read-words : ruleWords r ++ drop end ws ≡ drop at ws
+  read-words = rule-read (drop at ws) (r, drop end ws) (p .read) .1
+
+  rule-stands : Stands ws at (ruleWords r)
+  rule-stands =
+      let n = ap length read-words in
+      let m = length-append (ruleWords r) (drop end ws) in
+      let k = length-drop at ws in
+      stands-of (ruleWords r) (drop end ws) (sym read-words) (omega arith)
+
+  action-word : naturalOf (getD ws at (pos 0)) ≡ r .action
+  action-word = ap naturalOf (stands-head rule-stands (pos 0))
+
+  root-key : keyOf (getD ws (leftFrom at) (pos 0)) (getD ws (leftFrom at + 1) (pos 0)) ≡ rootKey (r .left)
+  root-key =
+      let e : leftFrom at + 1 ≡ at + 3 = omega arith in
+      ap₂ keyOf (stands-word rule-stands 2 (pos 0) (omega arith)) (ap (λ (i : ℕ). getD ws i (pos 0)) e ∙ stands-word rule-stands 3 (pos 0) (omega arith))
+
+  -- its row is written from what was found
+  row-is : rulePlaces at r ≡ rowOf ws at right conditions end
+  row-is = cc (p .rightIs, p .conditionsIs, p .endIs, root-key, action-word)
+
+  pub row-fits : length ws ≤ 65536 → RowFits ws at right conditions end
+  row-fits h =
+      let w = rule-stands .within in
+      let n = rule-length in
+      let a = length-append (leftWords r) (rightWords r ++ conditionsWords r) in
+      let b = length-append (rightWords r) (conditionsWords r) in
+      let i = p .rightIs in
+      let j = p .conditionsIs in
+      let k = p .endIs in
+      record {
+        root = omega arith;
+        rightFits = omega arith;
+        conditionsFit = omega arith;
+        endFits = omega arith;
+        short = h;
+        action = let e = action-word in let g = good r (rule-read (drop at ws) (r, drop end ws) (p .read) .0) .action in omega arith;
+      }
 
 module _ (index : List ℕ) (i : ℕ) (vs : List ℕ) (h : i + length vs ≤ length index) where
   stored : sets index i vs ≡ take i index ++ vs ++ drop (i + length vs) index
@@ -198,6 +243,7 @@ module _ (ws : List ℤ) (old : List ℕ) where
         long = r;
         few = c;
         below = omega arith;
+        short = l;
       }
 
   module _ (index : List ℕ) (count rule at : ℕ) (r : Reached ws old index count rule at) where
@@ -223,10 +269,10 @@ module _ (ws : List ℤ) (old : List ℕ) where
           (sym (r .check ∙ (ap (λ (n : ℕ). restCheck (readRules n (drop at ws))) one ∙ ap (λ (o : Option (Rule × List ℤ)). restCheck (o >>= ruleThen k)) e)))
           (closed (ap (λ (n : ℕ). placesRead n at (drop at ws)) one ∙ ap (λ (o : Option (Rule × List ℤ)). placesThen at o (λ i xs. placesRead k i xs)) e))
 
-      pub goes-on : (right conditions end : ℕ) → RuleAt ws at right conditions end → Reached ws old (sets index (perRule * rule) (at ∷ right ∷ conditions ∷ end ∷ [])) count (rule + 1) end
+      pub goes-on : (right conditions end : ℕ) → RuleAt ws at right conditions end → Reached ws old (sets index (perRule * rule) (rowOf ws at right conditions end)) count (rule + 1) end
       goes-on right conditions end p =
           let k = count - (rule + 1) in
-          let vs : List ℕ = at ∷ right ∷ conditions ∷ end ∷ [] in
+          let vs : List ℕ = rowOf ws at right conditions end in
           let l = r .long in
           let f = r .few in
           let room : perRule * rule + length vs ≤ length index = omega arith in
@@ -241,8 +287,8 @@ module _ (ws : List ℤ) (old : List ℕ) where
             found =
                 r .found ∙ (ap (λ (xs : List ℕ). take (perRule * rule) index ++ xs)
                 (ap (λ (n : ℕ). placesRead n at (drop at ws)) one ∙ (ap (λ (o : Option (Rule × List ℤ)). placesThen at o (λ i xs. placesRead k i xs)) (p .read) ∙
-                (ap (λ (xs : List ℕ). xs ++ placesRead k (at + length (ruleWords (p .rule))) (drop end ws)) (p .places) ∙
-                ap (λ (i : ℕ). vs ++ placesRead k i (drop end ws)) (rule-length at right conditions end (p .rule) (p .places))))) ∙
+                (ap (λ (xs : List ℕ). xs ++ placesRead k (at + length (ruleWords (p .rule))) (drop end ws)) (row-is ws at right conditions end p) ∙
+                ap (λ (i : ℕ). vs ++ placesRead k i (drop end ws)) (rule-length ws at right conditions end p)))) ∙
                 (sym (append-assoc (take (perRule * rule) index) vs rest) ∙
                 ap (λ (xs : List ℕ). xs ++ rest) (sym (take-stored index (perRule * rule) vs room) ∙ ap (λ (i : ℕ). take i new) (sym next))));
             kept =
@@ -251,6 +297,7 @@ module _ (ws : List ℤ) (old : List ℕ) where
             long = omega arith;
             few = f;
             below = omega arith;
+            short = r .short;
           }
 
     module _ (h : count ≤ rule) where

@@ -13,7 +13,7 @@ ghost use Rattle.minuska.specs.Bridge.Place.{indexLength};
 ghost use Rattle.table.specs.Index.{IndexTableContract};
 
 // The check. A rule's numbers are written once it is accepted.
-pub fn fill(table: &[i64], index: &mut [usize], ranges: &[i64; 32]) -> Check
+pub fn fill(table: &[i64], index: &mut [u32], ranges: &[i64; 32]) -> Check
     requires { ⌜ (indexLength ≤ length (now index)) × (now ranges ≡ groundRanges) ⌝ }
     ensures { λ r. ⌜ IndexTableContract (now (table .entry)) (now (index .entry)) (now (index .exit)) r ⌝ }
 {
@@ -34,7 +34,7 @@ pub fn fill(table: &[i64], index: &mut [usize], ranges: &[i64; 32]) -> Check
         let Parts::At(right, conditions, end) = rule_parts(table, at, ranges) else {
             return Check::Refused(Refusal::BadTable);
         };
-        put(index, rule, at, right, conditions, end);
+        put(table, index, rule, at, right, conditions, end);
         at = end;
         rule += 1;
     }

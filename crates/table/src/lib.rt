@@ -2,6 +2,7 @@
 mod expression;
 mod fill;
 pub mod index;
+pub mod key;
 mod node;
 mod number;
 mod rule;
@@ -21,7 +22,7 @@ ghost use Rattle.table.specs.Index.{IndexTableContract};
 pub fn check_table(table: &[i64]) -> Check
     ensures { λ r. ⌜ CheckTableContract (now (table .entry)) r ⌝ }
 {
-    let mut index = [0usize; INDEX_LEN];
+    let mut index = [0u32; INDEX_LEN];
     index_table(table, &mut index)
 }
 
@@ -49,8 +50,7 @@ pub fn action(table: &[i64], index: &Index, rule: usize) -> u16
     if rule_count(table, index) <= rule {
         return 0;
     }
-    let at = index::number(index, rule, index::START);
-    natural(term::word(table, at)) as u16
+    index::action(table, index, rule)
 }
 
 // The rule at a position of the order in which rules are tried.
