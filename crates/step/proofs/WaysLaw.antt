@@ -19,13 +19,13 @@ use Rattle.minuska.specs.declared.StepAnswer.the-variants as S
 use Rattle.minuska.specs.declared.Refusal.the-variants.{OverLimit}
 use Rattle.minuska.specs.Computed.Match.{tryMatch, unbound}
 use Rattle.minuska.specs.Computed.Value.{value, holdAll}
-use Rattle.minuska.specs.Bridge.Place.{Indexed, Accepted}
+use Rattle.minuska.specs.Bridge.Place.{Indexed, Names, Accepted}
 use Rattle.minuska.specs.Contract.{StepByRuleContract}
 use Rattle.minuska.specs.Bridge.Place.{RuleCountIs, ActionIs}
 use Rattle.minuska.proofs.Bridge.AcceptedLaw.{term-length}
 use Rattle.step.specs.declared.right.Fit.{Fit}
 use Rattle.step.specs.declared.right.Fit.the-variants.{Words, TooLarge}
-use Rattle.step.specs.Apply.{RuleAt, Names, Matched, SomeMatched, MatchIs, RootIs, HoldIs, MeasureIs, WordsFit, WriteIs, Instantiated}
+use Rattle.step.specs.Apply.{RuleAt, Matched, SomeMatched, MatchIs, RootIs, HoldIs, MeasureIs, WordsFit, WriteIs, Instantiated}
 use Rattle.step.proofs.ApplyLaw.{too-large, words-fit, as-large, as-stepped, no-successor, the-successor, unmatched, matched-some, unheld, applied, right-value, past-successor, named}
 
 -- the limit that an out slice gives is within it
