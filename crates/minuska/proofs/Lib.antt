@@ -1,5 +1,6 @@
 pub mod Tests
 pub mod Good
+pub mod NodeLaw
 pub mod WordLaw
 pub mod SpanLaw
 pub mod TableLaw

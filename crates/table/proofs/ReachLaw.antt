@@ -1,12 +1,12 @@
 -- How far a walk over terms of one level has come: turn by turn, and from the node at a place.
 use mathlib.Core.Path.{_≡_, refl, sym, _∙_, ap}
 use mathlib.Core.Bool.{Bool}
-use mathlib.Core.Option.{none}
-use mathlib.Core.List.{List, [], _∷_, _++_, append-assoc}
+use mathlib.Core.List.{List, _∷_, _++_, append-assoc}
 use Prim.Native.Nat.{ℕ, suc, _+_, _-_, _≤_, _<_}
 use native.Mathlib.Omega.{arith}
 use lib.IntN.{ℤ, pos}
 use lib.ListN.{length, drop, getD, replicate, length-drop, replicate-append-replicate}
+use Rattle.minuska.specs.Computed.Read.{maxChildren}
 use Rattle.table.specs.declared.node.Level.{Level}
 use Rattle.table.specs.declared.node.Node.{Node}
 use Rattle.table.specs.Below.{Below}
@@ -14,7 +14,7 @@ use Rattle.table.specs.Below as B
 use Rattle.table.specs.Node.{nodeOf, admitNode, flagNode, admitted, seenAfter}
 use Rattle.table.specs.Walk.{onward, walk}
 use Rattle.table.specs.Reach.{Reaches, Stops, TurnOn}
-use Rattle.table.proofs.NodeLaw.{admitted-seven}
+use Rattle.table.proofs.NodeLaw.{admitted-few}
 use Rattle.table.proofs.TurnLaw.{two-words, walk-short}
 
 -- children in front of the terms that are to come anyway
@@ -70,9 +70,9 @@ module _ (ws : List ℤ) (l : Level) (i : ℕ) (seen : List Bool) (h : i + 2 ≤
     into : (ls : List Level) → walk (drop i ws) i (l ∷ ls) seen ≡ walk (drop (i + 2) ws) (i + 2) (replicate k b ++ ls) (flagNode l seen n)
     into ls = node-turn ls ∙ ap (λ (x : Below). onward x ls (flagNode l seen n) (λ ms s. walk (drop (i + 2) ws) (i + 2) ms s)) q
 
-    pub turn-few : k ≤ 7
+    pub turn-few : k ≤ maxChildren
     unfolding admitted
-    turn-few = admitted-seven l seen b k t d (sym (ap (admitNode l seen) en) ∙ q)
+    turn-few = admitted-few l seen b k t d (sym (ap (admitNode l seen) en) ∙ q)
 
     -- children of a deeper level are walked in the same turn
     pub turn-below : (e : ℕ) (s : List Bool) → Reaches ws b (i + 2) k (flagNode l seen n) e 0 s → TurnOn ws l i seen s e 0

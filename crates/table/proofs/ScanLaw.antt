@@ -6,13 +6,13 @@ use mathlib.Core.List.{List, _++_, append-assoc}
 use Prim.Native.Nat.{ℕ, _+_}
 use native.Mathlib.Omega.{arith}
 use native.Mathlib.Nat.{add-zero}
-use lib.Dec.{T, eqb, ltb, eqb→eq}
+use lib.Dec.{T}
 use lib.IntN.{ℤ}
 use lib.ListN.{length, getD, replicate, length-append}
 use Rattle.minuska.specs.Basics.{_>>=_, provided}
-use Rattle.minuska.specs.Term.{Label, error, truth, whole, variable, call, symbol, Forest, nil, node, termCount, Role, aVariable, aCall, plain, role}
+use Rattle.minuska.specs.Term.{Label, Forest, nil, node, termCount, Role, aVariable, aCall, plain, role}
 use Rattle.minuska.specs.Word.{okHead, ok, encode, tagWord, datumWord}
-use Rattle.minuska.proofs.Tests.{and-right}
+use Rattle.minuska.proofs.NodeLaw.{NodeIs, node-is}
 use Rattle.minuska.proofs.WordLaw.{okay, head-okay, read-node}
 use Rattle.table.specs.declared.node.Level.{Level}
 use Rattle.table.specs.declared.node.Level.the-variants.{Expression}
@@ -44,29 +44,23 @@ scan l (node a cs ss) seen = provided (passes l (role a) seen) (flagged l (role 
 
 -- ---- a node's own words
 module _ (l : Level) (seen : List Bool) where
-  admit-as : (a : Label) (k : ℕ) → T (okHead a k) → admitNode l seen (nodeAs (role a) k) ≡ cond (passes l (role a) seen) (B.Are (below l (role a)) k) B.Bad
-  admit-as error k x = refl
-  admit-as (truth b) k x = refl
-  admit-as (whole z) k x = refl
-  admit-as (variable v) k x = ap (λ (n : ℕ). cond (takesVariable l (getD seen v false)) (B.Are l n) B.Bad) (sym (eqb→eq k 0 (and-right (ltb v 16) (eqb k 0) x)))
-  admit-as (call c) k x = refl
-  admit-as (symbol s) k x = refl
+  admit-as : (r : Role) (t d : ℤ) (k : ℕ) → NodeIs r t d k → admitNode l seen (nodeAs r k) ≡ cond (passes l r seen) (B.Are (below l r) k) B.Bad
+  admit-as (aVariable v) t d k n = ap (λ (m : ℕ). cond (takesVariable l (getD seen v false)) (B.Are l m) B.Bad) (sym (n .childless))
+  admit-as (aCall c) t d k n = refl
+  admit-as plain t d k n = refl
 
-  flag-as : (a : Label) (k : ℕ) → flagNode l seen (nodeAs (role a) k) ≡ flagged l (role a) seen
-  flag-as error k = refl
-  flag-as (truth b) k = refl
-  flag-as (whole z) k = refl
-  flag-as (variable v) k = refl
-  flag-as (call c) k = refl
-  flag-as (symbol s) k = refl
+  flag-as : (r : Role) (k : ℕ) → flagNode l seen (nodeAs r k) ≡ flagged l r seen
+  flag-as (aVariable v) k = refl
+  flag-as (aCall c) k = refl
+  flag-as plain k = refl
 
   admitted-node : (a : Label) (k : ℕ) → T (okHead a k) → admitted l (tagWord a k) (datumWord a) seen ≡ cond (passes l (role a) seen) (B.Are (below l (role a)) k) B.Bad
   unfolding admitted nodeOf
-  admitted-node a k x = ap (λ (o : Option (Label × ℕ)). admitNode l seen (nodeIn o)) (read-node a k x) ∙ admit-as a k x
+  admitted-node a k x = ap (λ (o : Option (Label × ℕ)). admitNode l seen (nodeIn o)) (read-node a k x) ∙ admit-as (role a) (tagWord a k) (datumWord a) k (node-is a k x)
 
   seen-node : (a : Label) (k : ℕ) → T (okHead a k) → seenAfter l (tagWord a k) (datumWord a) seen ≡ flagged l (role a) seen
   unfolding seenAfter nodeOf
-  seen-node a k x = ap (λ (o : Option (Label × ℕ)). flagNode l seen (nodeIn o)) (read-node a k x) ∙ flag-as a k
+  seen-node a k x = ap (λ (o : Option (Label × ℕ)). flagNode l seen (nodeIn o)) (read-node a k x) ∙ flag-as (role a) k
 
 -- ---- a list of terms before other words
 abbrev pub found : Walked → Option (ℕ × List Bool)

@@ -5,16 +5,16 @@ use mathlib.Core.Option.{Option, none, some}
 use mathlib.Core.List.{List}
 use Prim.Native.Nat.{ℕ, _<_}
 use native.Mathlib.Omega.{arith}
-use lib.Dec.{T, eqb, ltb, eqb→eq, ltb→lt}
+use lib.Dec.{T, eqb}
 use lib.ListN.{length, getD, set, replicate, length-set, getD-replicate}
 use lib.Seq.{getD-set-same, getD-set-other}
 use borrow.Author.Tests.{eqb-true, eqb-false}
 use Rattle.minuska.specs.Basics.{_>>=_, provided}
-use Rattle.minuska.specs.Term.{Label, error, truth, whole, variable, call, symbol, Forest, nil, node, termCount, Role, aVariable, aCall, plain, role, groundAt, isGround}
-use Rattle.minuska.specs.Word.{okNode, ok}
+use Rattle.minuska.specs.Term.{Label, Forest, nil, node, termCount, Role, aVariable, aCall, plain, role, groundAt, isGround}
+use Rattle.minuska.specs.Word.{variables, tagWord, datumWord, okNode, ok}
 use Rattle.minuska.specs.Rule.{symbolicAt, isSymbolic, expressionAt, isExpression, isExpressionTerm, occursAt, occurs, coversAt, covers}
-use Rattle.minuska.proofs.Tests.{and-left, and-right}
-use Rattle.minuska.proofs.WordLaw.{okay}
+use Rattle.minuska.proofs.NodeLaw.{NodeIs, node-is}
+use Rattle.minuska.proofs.WordLaw.{okay, head-okay, childless}
 use Rattle.table.specs.declared.node.Level.{Level}
 use Rattle.table.specs.declared.node.Level.the-variants.{Left, Right, Expression, Ground}
 use Rattle.table.proofs.ScanLaw.{passes, below, flagged, scan}
@@ -36,29 +36,22 @@ ended (some s) = refl
 
 -- ---- what a variable is: a leaf, with a number that has a flag
 pub record Leaf (v : ℕ) (cs : Forest) : Type 0 where
-  pub number : v < 16
+  pub number : v < variables
   pub childless : cs ≡ nil
 
-leaf-of : (v : ℕ) (cs : Forest) → T (okNode (variable v) cs) → Leaf v cs
-leaf-of v cs x = record { number = ltb→lt v 16 (and-left (ltb v 16) (eqb (termCount cs) 0) x); childless = none-of cs (eqb→eq (termCount cs) 0 (and-right (ltb v 16) (eqb (termCount cs) 0) x)) }
-  where
-    none-of : (f : Forest) → termCount f ≡ 0 → f ≡ nil
-    none-of nil e = refl
-    none-of (node l ds us) e = absurd (let f : ⊥ = omega arith in f)
-
--- the same by the role
+-- what is below a node, by its role
 abbrev Placed : Role → Forest → Type 0
 Placed (aVariable v) cs = Leaf v cs
 Placed (aCall c) cs = Unit {0}
 Placed plain cs = Unit {0}
 
 placed-of : (a : Label) (cs : Forest) → T (okNode a cs) → Placed (role a) cs
-placed-of error cs x = tt
-placed-of (truth b) cs x = tt
-placed-of (whole z) cs x = tt
-placed-of (variable v) cs x = leaf-of v cs x
-placed-of (call c) cs x = tt
-placed-of (symbol s) cs x = tt
+placed-of a cs x = pick (role a) (node-is a (termCount cs) (head-okay a cs x))
+  where
+    pick : (r : Role) → NodeIs r (tagWord a (termCount cs)) (datumWord a) (termCount cs) → Placed r cs
+    pick (aVariable v) n = record { number = n .small; childless = childless cs (n .childless) }
+    pick (aCall c) n = tt
+    pick plain n = tt
 
 -- ---- a right, an expression, a ground term
 abbrev pub Inner : Level → Type 0
@@ -93,7 +86,7 @@ shape-node Ground a cs ss = refl
 
 -- the flags are the variables of a left
 pub record Knows (seen : List Bool) (left : Forest) : Type 0 where
-  pub flag : (v : ℕ) → v < 16 → getD seen v false ≡ occurs v left
+  pub flag : (v : ℕ) → v < variables → getD seen v false ≡ occurs v left
 
 module _ (seen : List Bool) (left : Forest) (k : Knows seen left) where
   inner-below : (l : Level) (r : Role) → Inner l → Inner (below l r)

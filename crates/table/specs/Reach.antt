@@ -6,6 +6,7 @@ use mathlib.Core.List.{List, _++_}
 use Prim.Native.Nat.{ℕ, _+_, _≤_}
 use lib.IntN.{ℤ}
 use lib.ListN.{length, drop, replicate}
+use Rattle.minuska.specs.Computed.Read.{maxChildren}
 use Rattle.term.specs.declared.Place.{Place}
 use Rattle.term.specs.declared.Place.the-variants as P
 use Rattle.table.specs.declared.node.Level.{Level}
@@ -23,10 +24,10 @@ pub record Reaches (ws : List ℤ) (l : Level) (at k : ℕ) (seen : List Bool) (
 pub record Stops (ws : List ℤ) (l : Level) (at k : ℕ) (seen seen′ : List Bool) : Type 0 where
   pub nowhere : (ls : List Level) → walk (drop at ws) at (replicate k l ++ ls) seen ≡ record { end = none; seen = seen′ }
 
--- What one turn answers: it takes a node or more, and at most seven terms are to come for it.
+-- What one turn answers: it takes a node or more, and no more terms are to come for it than a node has children.
 pub record TurnOn (ws : List ℤ) (l : Level) (i : ℕ) (seen seen′ : List Bool) (e m : ℕ) : Type 0 where
   pub on : i + 2 ≤ e
-  pub few : m ≤ 7
+  pub few : m ≤ maxChildren
   pub reaches : Reaches ws l i 1 seen e m seen′
 
 abbrev pub TurnIs : List ℤ → Level → ℕ → List Bool → List Bool → Turn → Type 0

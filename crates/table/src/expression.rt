@@ -6,6 +6,7 @@ use term::Place;
 ghost use mathlib.Core.Path.{_≡_};
 ghost use Prim.Native.Nat.{_≤_};
 ghost use lib.ListN.{length};
+ghost use Rattle.minuska.specs.Computed.Read.{maxChildren};
 ghost use Rattle.term.specs.Datum.{groundRanges};
 ghost use Rattle.table.specs.declared.node.Level.the-variants.{Expression};
 ghost use Rattle.table.specs.Reach.{EndIs, TurnIs};
@@ -47,7 +48,7 @@ pub fn expressions_end(
     seen: &[bool; 16],
     ranges: &[i64; 32],
 ) -> Place
-    requires { ⌜ (at ≤ length (now table)) × (count ≤ 7) × (now ranges ≡ groundRanges) ⌝ }
+    requires { ⌜ (at ≤ length (now table)) × (count ≤ maxChildren) × (now ranges ≡ groundRanges) ⌝ }
     ensures { λ r. ⌜ EndIs (now (table .entry)) Expression at count (now (seen .entry)) (now (seen .entry)) r ⌝ }
 {
     let mut i = at;

@@ -3,6 +3,8 @@ use crate::number::natural;
 ghost use mathlib.Core.Path.{_≡_};
 ghost use lib.IntN.{pos};
 ghost use Prim.Native.Nat.{_<_};
+ghost use Rattle.minuska.specs.Computed.Read.{variableTag, callTag};
+ghost use Rattle.minuska.specs.Word.{variables};
 ghost use Rattle.term.specs.Datum.{groundRanges};
 ghost use Rattle.table.specs.Node.{nodeOf, sideLevel, TakesVariable};
 
@@ -30,23 +32,22 @@ pub enum Turn {
 
 // What a variable's datum is, and a call's.
 fn variable(d: i64) -> Node
-    ensures { λ r. ⌜ r ≡ nodeOf (pos 3) d ⌝ }
+    ensures { λ r. ⌜ r ≡ nodeOf (pos variableTag) d ⌝ }
 {
     let v = natural(d);
-    if 15 < v {
+    if term::VARIABLES <= v {
         return Node::Bad;
     }
     Node::Variable(v)
 }
 
 fn call(d: i64) -> Node
-    ensures { λ r. ⌜ r ≡ nodeOf (pos 4) d ⌝ }
+    ensures { λ r. ⌜ r ≡ nodeOf (pos callTag) d ⌝ }
 {
-    let code = natural(d);
-    if 14 < code {
+    if term::FUNCTIONS <= natural(d) {
         return Node::Bad;
     }
-    Node::Call(term::arity(code))
+    Node::Call(term::children(term::CALL, d))
 }
 
 // What two words are.
@@ -54,21 +55,21 @@ pub fn classify(ranges: &[i64; 32], t: i64, d: i64) -> Node
     requires { ⌜ now ranges ≡ groundRanges ⌝ }
     ensures { λ r. ⌜ r ≡ nodeOf t d ⌝ }
 {
-    if t == 3 {
+    if t == term::VARIABLE {
         return variable(d);
     }
-    if t == 4 {
+    if t == term::CALL {
         return call(d);
     }
     if term::ground::is_ground(ranges, t, d) {
-        return Node::Plain(term::children_by_tag(t));
+        return Node::Plain(term::children(t, d));
     }
     Node::Bad
 }
 
 // A left's variable is flagged; a right's must have been.
-pub fn takes_variable(left: bool, v: usize, seen: &mut [bool; 16]) -> bool
-    requires { ⌜ v < 16 ⌝ }
+pub fn takes_variable(left: bool, v: usize, seen: &mut [bool; term::VARIABLES]) -> bool
+    requires { ⌜ v < variables ⌝ }
     ensures { λ r. ⌜ TakesVariable (sideLevel left) v (now (seen .entry)) (now (seen .exit)) r ⌝ }
 {
     if left {

@@ -1,64 +1,44 @@
 -- A node's child count: a call's by its function, any other's by its tag. And where a term ends that stands at a place.
-use mathlib.Core.Path.{_≡_, refl, sym, _∙_, ap, subst}
+use mathlib.Core.Path.{_≡_, sym, _∙_, ap, subst}
 use mathlib.Core.List.{List}
-use Prim.Native.Nat.{ℕ, _+_, _<_}
+use Prim.Native.Nat.{ℕ, _+_}
 use native.Mathlib.Omega.{arith}
-use lib.Dec.{T, eqb, ltb, eqb→eq, ltb→lt}
-use lib.IntN.{ℤ, pos, natAbs}
+use lib.Dec.{T}
+use lib.IntN.{ℤ, pos}
 use lib.ListN.{length}
 use Rattle.minuska.proofs.Bridge.AppendedLaw.{labels-all}
-use Rattle.minuska.proofs.Tests.{and-left, and-right}
+use Rattle.minuska.proofs.NodeLaw.{NodeIs, CallNode}
 use Rattle.minuska.specs.Bridge.Place.{Stands}
-use Rattle.minuska.specs.Function.{functionAt, functions}
-use Rattle.minuska.specs.Term.{Label, call, error, symbol, truth, variable, whole, Forest, nil, node, Term, single, everyLabel}
-use Rattle.minuska.specs.Word.{datumWord, encode, ok, okHead, tagWord}
+use Rattle.minuska.specs.Computed.Read.{plainChildren, variableTag, callTag}
+use Rattle.minuska.specs.Term.{Role, aVariable, aCall, plain, role, Forest, nil, node, Term, single, everyLabel}
+use Rattle.minuska.specs.Word.{encode, ok}
 use Rattle.term.specs.TermAt.{NodeWords}
-use Rattle.term.specs.TermEnd.{anyLabel, arityOf, childrenByTag, childrenIf, childCountOf, termEnd}
-use Rattle.term.specs.declared.Count.the-variants.{Is}
+use Rattle.term.specs.TermEnd.{anyLabel, childrenOf, termEnd}
 use Rattle.term.specs.declared.Place.the-variants.{At}
-use Rattle.term.proofs.NodeLaw.{Node, children-node}
-use Rattle.term.proofs.TermEndLaw.{child-count-is, count-some, term-end-is}
+use Rattle.term.proofs.NodeLaw.{Node, children-node, count-is, role-is}
+use Rattle.term.proofs.TermEndLaw.{term-end-is}
 use Rattle.term.proofs.ExtentLaw.{stands-ends}
-
--- a call's function code, and its arity
-pub record CallOf (d : ℤ) (m : ℕ) : Type 0 where
-  pub code : ℕ
-  pub datum : pos code ≡ d
-  pub low : code < 15
-  pub arity : arityOf code ≡ m
-
-tag-call : (l : Label) (m : ℕ) → T (okHead l m) → tagWord l m ≡ pos 4 → CallOf (datumWord l) m
-unfolding arityOf
-tag-call error m x e = absurd (let z : _≡_ {A = ℕ} 0 4 = ap natAbs e in let f : ⊥ = omega arith in f)
-tag-call (truth b) m x e = absurd (let z : _≡_ {A = ℕ} 1 4 = ap natAbs e in let f : ⊥ = omega arith in f)
-tag-call (whole n) m x e = absurd (let z : _≡_ {A = ℕ} 2 4 = ap natAbs e in let f : ⊥ = omega arith in f)
-tag-call (variable v) m x e = absurd (let z : _≡_ {A = ℕ} 3 4 = ap natAbs e in let f : ⊥ = omega arith in f)
-tag-call (call c) m x e =
-    let a = ltb c (length functions) in
-    let b = eqb m (functionAt c .arity) in
-    record { code = c; datum = refl; low = ltb→lt c 15 (and-left a b x); arity = sym (eqb→eq m (functionAt c .arity) (and-right a b x)) }
-tag-call (symbol s) m x e = absurd (let z : 8 + m ≡ 4 = ap natAbs e in let f : ⊥ = omega arith in f)
-
-tag-other : (l : Label) (m : ℕ) → T (okHead l m) → (tagWord l m ≡ pos 4 → ⊥) → childrenByTag (tagWord l m) ≡ m
-unfolding childrenByTag
-tag-other error m x f = sym (eqb→eq m 0 x)
-tag-other (truth b) m x f = sym (eqb→eq m 0 x)
-tag-other (whole z) m x f = sym (eqb→eq m 0 x)
-tag-other (variable v) m x f = sym (eqb→eq m 0 (and-right (ltb v 16) (eqb m 0) x))
-tag-other (call c) m x f = absurd (f refl)
-tag-other (symbol s) m x f = omega arith
 
 module _ (t d : ℤ) (n : NodeWords t d) where
   that : Node anyLabel t d (n .count)
-  that = children-node anyLabel t d (n .count) (count-some (childrenIf anyLabel t d) (n .count) (n .is ∙ child-count-is t d))
+  that = children-node anyLabel t d (n .count) (n .is)
 
-  pub call-node : t ≡ pos 4 → CallOf d (n .count)
-  call-node e = let w = that in subst (λ (z : ℤ). CallOf z (n .count)) (w .datum) (tag-call (w .label) (n .count) (w .okay) (w .tag ∙ e))
+  pub call-node : t ≡ pos callTag → (c : ℕ) × CallNode c t d (childrenOf t d)
+  call-node e = pick (role (that .label)) (role-is that)
+    where
+      pick : (r : Role) → NodeIs r t d (n .count) → (c : ℕ) × CallNode c t d (childrenOf t d)
+      pick (aVariable v) x = absurd (let q = x .tag in let z : _≡_ {A = ℕ} variableTag callTag = cc in let f : ⊥ = omega arith in f)
+      pick (aCall c) x = (c, subst (CallNode c t d) (count-is that) x)
+      pick plain x = absurd (x .no-call (let q = x .tag in cc))
 
-  pub other-node : (t ≡ pos 4 → ⊥) → Is (childrenByTag t) ≡ childCountOf t d
-  other-node f =
-      let w = that in
-      ap Is (ap childrenByTag (sym (w .tag)) ∙ tag-other (w .label) (n .count) (w .okay) (λ e. f (sym (w .tag) ∙ e))) ∙ n .is
+  pub other-node : (t ≡ pos callTag → ⊥) → plainChildren t d ≡ childrenOf t d
+  unfolding plainChildren
+  other-node f = pick (role (that .label)) (role-is that) ∙ count-is that
+    where
+      pick : (r : Role) → NodeIs r t d (n .count) → plainChildren t d ≡ n .count
+      pick (aVariable v) x = ap (λ (z : ℤ). plainChildren z d) (x .tag) ∙ sym (x .childless)
+      pick (aCall c) x = absurd (f (x .tag))
+      pick plain x = sym (x .count)
 
 -- every label passes a test that all pass
 any-label : (f : Forest) → T (everyLabel anyLabel f)

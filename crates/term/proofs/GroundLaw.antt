@@ -1,67 +1,28 @@
--- Two words are a ground term's node exactly if the datum is in the tag's range among the ground ranges.
+-- The range of a datum by tag: two words are a ground term's node exactly if the datum is in the tag's range.
 use mathlib.Core.Path.{_≡_, refl, sym, _∙_, ap, subst}
-use mathlib.Core.Bool.{Bool, true, false, true≢false}
-use mathlib.Core.Option.{Option, none, some}
-use Prim.Native.Nat.{ℕ, zero, suc, _+_, _-_, _<_}
+use mathlib.Core.Bool.{Bool, true, false, cond, true≢false}
+use mathlib.Core.Option.{Option, some}
+use Prim.Native.Nat.{ℕ, zero, suc, _+_, _≤_, _<_, _^_}
 use native.Mathlib.Omega.{arith}
-use lib.IntN.{ℤ, pos, negsuc}
+use lib.Dec.{T, leb, ltb, ltb→lt, lt→ltb, leb→le, le→leb, lit<}
+use lib.IntN.{ℤ, pos, negsuc, pos-ne-negsuc}
 use lib.ListN.{getD, getD-replicate, List·getD-append}
 use lib.Seq.{getD-append-add}
-use lib.Signed.{ltZ}
+use lib.Signed.{ltZ, mag}
 use mir.Syntax.{w64}
 use mir.Val.{SFits}
-use Rattle.minuska.specs.Basics.{_>>=_, provided}
-use Rattle.minuska.specs.Term.{Role, groundAt, plain}
-use Rattle.term.specs.Datum.{groundLeasts, groundMosts, groundRanges, leastDatum, mostDatum}
-use Rattle.term.specs.TermEnd.{anyLabel, childrenIf, childCountOf, childrenByTag, GroundNode}
-use Rattle.term.specs.declared.Count.the-variants.{Is, Bad}
-use Rattle.term.proofs.DatumLaw.{InRange, low-tag, high-tag, low-datum, high-datum, range-plain, nothing}
-use Rattle.term.proofs.RoleLaw.{roleAt, role-plain, by-role}
-use Rattle.term.proofs.TermEndLaw.{child-count-is, count-none, count-some}
+use borrow.Author.Tests.{ltb-true, ltb-false, le-ltb}
+use Rattle.minuska.proofs.Tests.{and-both, and-left, and-right}
+use Rattle.minuska.specs.Term.{Label, call, error, symbol, truth, variable, whole}
+use Rattle.minuska.specs.Word.{symbols, datumWord, okHead, tagWord}
+use Rattle.term.specs.Datum.{groundLeasts, groundMosts, groundRanges}
+use Rattle.term.specs.TermAt.{NodeWords}
+use Rattle.term.specs.TermEnd.{anyLabel, groundLabel, childrenOf, GroundNode}
+use Rattle.term.proofs.NodeLaw.{Node, node-children, children-node, no-node, count-is}
 
--- ---- the child count, and the role that the tag shows
-no-children : (b : Bool) (o : Option ℕ) → b ≡ false → (o >>= λ m. provided b m) ≡ none
-no-children true o e = absurd (true≢false e)
-no-children false none e = refl
-no-children false (some m) e = refl
-
-module _ (t d : ℤ) where
-  -- two words that are no node's
-  pub no-ground : Bad ≡ childCountOf t d → GroundNode t d false
-  no-ground e = record { children = by-role groundAt t d ∙ ap (λ (o : Option ℕ). o >>= λ m. provided (groundAt (roleAt t d)) m) (count-none (childrenIf anyLabel t d) (e ∙ child-count-is t d)) }
-
-  -- a variable or a call
-  symbolic : groundAt (roleAt t d) ≡ false → GroundNode t d false
-  symbolic e = record { children = by-role groundAt t d ∙ no-children (groundAt (roleAt t d)) (childrenIf anyLabel t d) e }
-
-  -- any other node
-  other : (t ≡ pos 3 → ⊥) → (t ≡ pos 4 → ⊥) → Is (childrenByTag t) ≡ childCountOf t d → GroundNode t d true
-  other f g e =
-      record {
-        children = by-role groundAt t d ∙
-            (ap (λ (r : Role). childrenIf anyLabel t d >>= λ m. provided (groundAt r) m) (role-plain t d f g) ∙
-            ap (λ (o : Option ℕ). o >>= λ m. provided true m) (count-some (childrenIf anyLabel t d) (childrenByTag t) (e ∙ child-count-is t d)));
-      }
-
--- ---- the ground ranges are the tags' ranges, but for a variable's and a call's
-least-same : (tag : ℕ) → tag < 16 → getD groundLeasts tag (pos 0) ≡ leastDatum tag
-unfolding leastDatum
-least-same zero h = refl
-least-same (suc zero) h = refl
-least-same (suc (suc zero)) h = refl
-least-same (suc (suc (suc k))) h = getD-replicate 13 k (pos 0) (pos 0) (omega arith)
-
-most-same : (tag : ℕ) → (tag ≡ 3 → ⊥) → (tag ≡ 4 → ⊥) → getD groundMosts tag (pos 0) ≡ mostDatum tag
-unfolding mostDatum
-most-same zero f g = refl
-most-same (suc zero) f g = refl
-most-same (suc (suc zero)) f g = refl
-most-same (suc (suc (suc zero))) f g = absurd (f refl)
-most-same (suc (suc (suc (suc zero)))) f g = absurd (g refl)
-most-same (suc (suc (suc (suc (suc zero))))) f g = refl
-most-same (suc (suc (suc (suc (suc (suc zero)))))) f g = refl
-most-same (suc (suc (suc (suc (suc (suc (suc zero))))))) f g = refl
-most-same (suc (suc (suc (suc (suc (suc (suc (suc k)))))))) f g = refl
+pub record InRange (tag : ℕ) (d : ℤ) : Type 0 where
+  pub low : ltZ d (getD groundLeasts tag (pos 0)) ≡ false
+  pub high : ltZ (getD groundMosts tag (pos 0)) d ≡ false
 
 -- ---- both lists stand in one
 pub least-at : (tag : ℕ) → tag < 16 → getD groundRanges tag (pos 0) ≡ getD groundLeasts tag (pos 0)
@@ -72,42 +33,107 @@ most-at tag =
     let e : tag + 16 ≡ 16 + tag = omega arith in
     ap (λ (n : ℕ). getD groundRanges n (pos 0)) e ∙ getD-append-add groundLeasts groundMosts tag (pos 0)
 
-same : {a b : ℕ} → pos a ≡ pos b → a ≡ b
-same e = cc
+-- a symbol's entries
+eight : (k : ℕ) → 8 + k ≡ suc (suc (suc (suc (suc (suc (suc (suc k)))))))
+eight k = omega arith
 
-by-number : (n : ℕ) → n - 8 ≡ childrenByTag (pos n)
-unfolding childrenByTag
-by-number n = refl
+module _ (k : ℕ) (h : k < 8) where
+  symbol-least : getD groundLeasts (suc (suc (suc (suc (suc (suc (suc (suc k)))))))) (pos 0) ≡ pos 0
+  symbol-least = getD-replicate 8 k (pos 0) (pos 0) h
 
-module _ (tag : ℕ) (d : ℤ) (h : tag < 16) where
-  -- below the range
-  pub below-ground : SFits w64 d → ltZ d (getD groundLeasts tag (pos 0)) ≡ true → GroundNode (pos tag) d false
-  below-ground f e = no-ground (pos tag) d (low-datum tag d f (ap (ltZ d) (sym (least-same tag h)) ∙ e))
+  symbol-most : getD groundMosts (suc (suc (suc (suc (suc (suc (suc (suc k)))))))) (pos 0) ≡ pos 4095
+  symbol-most = getD-replicate 8 k (pos 4095) (pos 0) h
 
-  module _ (f : tag ≡ 3 → ⊥) (g : tag ≡ 4 → ⊥) where
-    above-plain : SFits w64 d → ltZ (getD groundMosts tag (pos 0)) d ≡ true → GroundNode (pos tag) d false
-    above-plain s e = no-ground (pos tag) d (high-datum tag d s (ap (λ (z : ℤ). ltZ z d) (sym (most-same tag f g)) ∙ e))
+-- ---- a node's datum is in range
+number-range : (n most : ℕ) → n ≤ most → (ltb n 0 ≡ false) × (ltb most n ≡ false)
+number-range n most h = (le-ltb n 0 (omega arith), le-ltb most n h)
 
-    in-plain : ltZ d (getD groundLeasts tag (pos 0)) ≡ false → ltZ (getD groundMosts tag (pos 0)) d ≡ false → GroundNode (pos tag) d true
-    in-plain l m =
-        other (pos tag) d (λ e. f (same e)) (λ e. g (same e))
-        (ap Is (sym (by-number tag)) ∙
-        range-plain tag d h g (record { low = ap (ltZ d) (sym (least-same tag h)) ∙ l; high = ap (λ (z : ℤ). ltZ z d) (sym (most-same tag f g)) ∙ m }))
+whole-range : (z : ℤ) → mag z < 2 ^ 63 → InRange 2 z
+whole-range (pos n) h = record { low = refl; high = le-ltb 9223372036854775807 n (omega arith) }
+whole-range (negsuc n) h = record { low = le-ltb 9223372036854775807 n (omega arith); high = refl }
 
--- above the range; a variable and a call are above theirs
-pub above-ground : (tag : ℕ) (d : ℤ) → tag < 16 → SFits w64 d → ltZ (getD groundMosts tag (pos 0)) d ≡ true → GroundNode (pos tag) d false
-above-ground zero d h s e = above-plain 0 d h (λ q. omega arith) (λ q. omega arith) s e
-above-ground (suc zero) d h s e = above-plain 1 d h (λ q. omega arith) (λ q. omega arith) s e
-above-ground (suc (suc zero)) d h s e = above-plain 2 d h (λ q. omega arith) (λ q. omega arith) s e
-above-ground (suc (suc (suc zero))) d h s e = symbolic (pos 3) d refl
-above-ground (suc (suc (suc (suc zero)))) d h s e = symbolic (pos 4) d refl
-above-ground (suc (suc (suc (suc (suc k))))) d h s e = above-plain (suc (suc (suc (suc (suc k))))) d h (λ q. omega arith) (λ q. omega arith) s e
+symbol-range : (k s : ℕ) → k < 8 → s < symbols → InRange (suc (suc (suc (suc (suc (suc (suc (suc k)))))))) (pos s)
+symbol-range k s h i =
+    let r = number-range s 4095 (omega arith) in
+    record { low = ap (ltZ (pos s)) (symbol-least k h) ∙ r .0; high = ap (λ (z : ℤ). ltZ z (pos s)) (symbol-most k h) ∙ r .1 }
 
--- in the range
-pub in-ground : (tag : ℕ) (d : ℤ) → tag < 16 → ltZ d (getD groundLeasts tag (pos 0)) ≡ false → ltZ (getD groundMosts tag (pos 0)) d ≡ false → GroundNode (pos tag) d true
-in-ground zero d h l m = in-plain 0 d h (λ q. omega arith) (λ q. omega arith) l m
-in-ground (suc zero) d h l m = in-plain 1 d h (λ q. omega arith) (λ q. omega arith) l m
-in-ground (suc (suc zero)) d h l m = in-plain 2 d h (λ q. omega arith) (λ q. omega arith) l m
-in-ground (suc (suc (suc zero))) d h l m = absurd (nothing d l m)
-in-ground (suc (suc (suc (suc zero)))) d h l m = absurd (nothing d l m)
-in-ground (suc (suc (suc (suc (suc k))))) d h l m = in-plain (suc (suc (suc (suc (suc k))))) d h (λ q. omega arith) (λ q. omega arith) l m
+label-range : (l : Label) (k : ℕ) → T (okHead l k) → T (groundLabel l) → SFits w64 (datumWord l) → (tag : ℕ) × (tagWord l k ≡ pos tag) × (tag < 16) × InRange tag (datumWord l)
+label-range error k x g f = (0, refl, lit< tt, record { low = refl; high = refl })
+label-range (truth true) k x g f = (1, refl, lit< tt, record { low = refl; high = refl })
+label-range (truth false) k x g f = (1, refl, lit< tt, record { low = refl; high = refl })
+label-range (whole z) k x g f = (2, refl, lit< tt, whole-range z (f .sfits))
+label-range (variable v) k x g f = absurd g
+label-range (call c) k x g f = absurd g
+label-range (symbol s) k x g f =
+    let h = ltb→lt s symbols (and-left (ltb s symbols) (leb k 7) x) in
+    let i = leb→le k 7 (and-right (ltb s symbols) (leb k 7) x) in
+    let j : k < 8 = omega arith in
+    (suc (suc (suc (suc (suc (suc (suc (suc k))))))), ap pos (eight k), omega arith, symbol-range k s j h)
+
+-- two words that are no ground term's node
+no-ground : (t d : ℤ) → ((m : ℕ) → Node groundLabel t d m → ⊥) → GroundNode t d false
+no-ground t d f = record { children = no-node groundLabel t d f }
+
+pub low-tag : (t d : ℤ) → ltZ t (pos 0) ≡ true → GroundNode t d false
+low-tag (pos t) d h = absurd (let e = ltb-true t 0 h in let f : ⊥ = omega arith in f)
+low-tag (negsuc t) d h = no-ground (negsuc t) d (λ m n. pos-ne-negsuc _ t (n .tag))
+
+module _ (tag : ℕ) (d : ℤ) (f : SFits w64 d) where
+  node-range : (m : ℕ) → Node groundLabel (pos tag) d m → (tag < 16) × InRange tag d
+  node-range m n =
+      let h = label-range (n .label) m (n .okay) (n .passes) (subst (SFits w64) (sym (n .datum)) f) in
+      let e : h .0 ≡ tag = let a = h .1 in let b = n .tag in cc in
+      (subst (λ (x : ℕ). x < 16) e (h .2), subst (λ (x : ℕ). InRange x d) e (subst (InRange (h .0)) (n .datum) (h .3)))
+
+  pub high-tag : 15 < tag → GroundNode (pos tag) d false
+  high-tag h = no-ground (pos tag) d (λ m n. let r = node-range m n .0 in omega arith)
+
+  pub low-datum : ltZ d (getD groundLeasts tag (pos 0)) ≡ true → GroundNode (pos tag) d false
+  low-datum h = no-ground (pos tag) d (λ m n. true≢false (sym h ∙ node-range m n .1 .low))
+
+  pub high-datum : ltZ (getD groundMosts tag (pos 0)) d ≡ true → GroundNode (pos tag) d false
+  high-datum h = no-ground (pos tag) d (λ m n. true≢false (sym h ∙ node-range m n .1 .high))
+
+-- ---- a datum in range is a node's
+number : (d : ℤ) (most : ℕ) → ltZ d (pos 0) ≡ false → ltZ (pos most) d ≡ false → (n : ℕ) × (pos n ≡ d) × (n ≤ most)
+number (pos n) most l h = (n, refl, ltb-false most n h)
+number (negsuc n) most l h = absurd (true≢false l)
+
+nothing : (d : ℤ) → ltZ d (pos 0) ≡ false → ltZ (negsuc 0) d ≡ false → ⊥
+nothing (pos n) l h = true≢false h
+nothing (negsuc n) l h = true≢false l
+
+bit : (n : ℕ) → n ≤ 1 → (b : Bool) × (cond b 1 0 ≡ n)
+bit zero h = (false, refl)
+bit (suc zero) h = (true, refl)
+bit (suc (suc n)) h = absurd (let f : ⊥ = omega arith in f)
+
+node-good : (l : Label) (k : ℕ) (t d : ℤ) → T (okHead l k) → T (groundLabel l) → tagWord l k ≡ t → datumWord l ≡ d → GroundNode t d true
+node-good l k t d x g p q =
+    let n : Node groundLabel t d k = record { label = l; okay = x; passes = g; tag = p; datum = q } in
+    record { children = node-children groundLabel t d k n ∙ ap {B = Option ℕ} some (count-is n) }
+
+pub in-range : (tag : ℕ) (d : ℤ) → tag < 16 → InRange tag d → GroundNode (pos tag) d true
+in-range zero d i r =
+    let n = number d 0 (r .low) (r .high) in
+    let e : 0 ≡ n .0 = let h = n .2 in omega arith in
+    node-good error 0 (pos 0) d tt tt refl (ap pos e ∙ n .1)
+in-range (suc zero) d i r = let n = number d 1 (r .low) (r .high) in let b = bit (n .0) (n .2) in node-good (truth (b .0)) 0 (pos 1) d tt tt refl (ap pos (b .1) ∙ n .1)
+in-range (suc (suc zero)) d i r = node-good (whole d) 0 (pos 2) d tt tt refl refl
+in-range (suc (suc (suc zero))) d i r = absurd (nothing d (r .low) (r .high))
+in-range (suc (suc (suc (suc zero)))) d i r = absurd (nothing d (r .low) (r .high))
+in-range (suc (suc (suc (suc (suc zero))))) d i r = absurd (nothing d (r .low) (r .high))
+in-range (suc (suc (suc (suc (suc (suc zero)))))) d i r = absurd (nothing d (r .low) (r .high))
+in-range (suc (suc (suc (suc (suc (suc (suc zero))))))) d i r = absurd (nothing d (r .low) (r .high))
+in-range (suc (suc (suc (suc (suc (suc (suc (suc k)))))))) d i r =
+    let j : k < 8 = omega arith in
+    let n = number d 4095 (ap (ltZ d) (sym (symbol-least k j)) ∙ r .low) (ap (λ (z : ℤ). ltZ z d) (sym (symbol-most k j)) ∙ r .high) in
+    let h : n .0 < symbols = let h = n .2 in omega arith in
+    let a : k ≤ 7 = omega arith in
+    node-good (symbol (n .0)) k (pos (suc (suc (suc (suc (suc (suc (suc (suc k))))))))) d (and-both (ltb (n .0) symbols) (leb k 7) (lt→ltb (n .0) symbols h) (le→leb k 7 a)) tt (ap pos (eight k)) (n .1)
+
+-- two words that passed are a node's
+pub ground-words : (t d : ℤ) → GroundNode t d true → NodeWords t d
+ground-words t d g =
+    let n = children-node groundLabel t d (childrenOf t d) (g .children) in
+    record { count = childrenOf t d; is = node-children anyLabel t d (childrenOf t d) (record { label = n .label; okay = n .okay; passes = tt; tag = n .tag; datum = n .datum }) }

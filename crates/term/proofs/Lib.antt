@@ -1,8 +1,6 @@
 pub mod SignedLaw
 pub mod TermEndLaw
 pub mod NodeLaw
-pub mod RoleLaw
-pub mod DatumLaw
 pub mod GroundLaw
 pub mod ExtentLaw
 pub mod CheckLaw

@@ -13,15 +13,10 @@ use lib.Seq.{drop-cons}
 use Rattle.minuska.proofs.Tests.{came}
 use Rattle.minuska.specs.Basics.{_>>=_}
 use Rattle.minuska.specs.Term.{Label}
-use Rattle.term.specs.TermEnd.{anyLabel, groundLabel, groundTermsEnd, labelTest, childrenIf, extent, countOf, placeOf, childCountOf, termEnd, termEndIf}
-use Rattle.term.specs.declared.Count.the-variants.{Is, Bad}
+use Rattle.term.specs.TermEnd.{anyLabel, groundLabel, groundTermsEnd, labelTest, childrenIf, extent, placeOf, termEnd, termEndIf}
 use Rattle.term.specs.declared.Place.the-variants.{At, Nowhere}
 
 -- ---- the shut names, opened
-pub child-count-is : (t d : ℤ) → childCountOf t d ≡ countOf (childrenIf anyLabel t d)
-unfolding childCountOf
-child-count-is t d = refl
-
 pub term-end-is : (ws : List ℤ) (at : ℕ) → termEnd ws at ≡ placeOf at (extent anyLabel (drop at ws) 1)
 unfolding termEnd
 term-end-is ws at = refl
@@ -36,14 +31,6 @@ module _ (ground : Bool) where
   term-end-if-is ws at = refl
 
 -- ---- an answer, and what it came from
-pub count-none : (o : Option ℕ) → Bad ≡ countOf o → o ≡ none
-count-none none e = refl
-count-none (some n) e = absurd (let z : _≡_ {A = ℕ} 0 1 = cc in let f : ⊥ = omega arith in f)
-
-pub count-some : (o : Option ℕ) (m : ℕ) → Is m ≡ countOf o → o ≡ some m
-count-some none m e = absurd (let z : _≡_ {A = ℕ} 0 1 = cc in let f : ⊥ = omega arith in f)
-count-some (some n) m e = let p : n ≡ m = cc in ap {B = Option ℕ} some p
-
 pub place-some : (at e : ℕ) (o : Option ℕ) → placeOf at o ≡ At e → (m : ℕ) × (o ≡ some m) × (at + m ≡ e)
 place-some at e none p = absurd (let z : _≡_ {A = ℕ} 0 1 = cc in let f : ⊥ = omega arith in f)
 place-some at e (some m) p = (m, refl, (let q : at + m ≡ e = cc in q))

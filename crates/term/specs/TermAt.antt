@@ -1,5 +1,6 @@
 -- A term stands at a place, be it ground or not; whatever term stands there, it ends at r. And two words that are a node's.
 use mathlib.Core.Path.{_≡_}
+use mathlib.Core.Option.{some}
 use mathlib.Core.List.{List}
 use Prim.Native.Nat.{ℕ, _+_}
 use lib.Dec.{T}
@@ -8,8 +9,7 @@ use lib.ListN.{length}
 use Rattle.minuska.specs.Term.{Term, single}
 use Rattle.minuska.specs.Word.{ok, encode}
 use Rattle.minuska.specs.Bridge.Place.{Stands}
-use Rattle.term.specs.TermEnd.{childCountOf}
-use Rattle.term.specs.declared.Count.the-variants.{Is}
+use Rattle.term.specs.TermEnd.{anyLabel, childrenIf}
 
 pub record TermAt (ws : List ℤ) (at : ℕ) : Type 0 where
   pub term : Term
@@ -21,4 +21,4 @@ pub record TermEnds (ws : List ℤ) (at r : ℕ) : Type 0 where
 
 pub record NodeWords (t d : ℤ) : Type 0 where
   pub count : ℕ
-  pub is : Is count ≡ childCountOf t d
+  pub is : childrenIf anyLabel t d ≡ some count

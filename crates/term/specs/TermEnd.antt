@@ -3,15 +3,13 @@ use mathlib.Core.Path.{_≡_}
 use mathlib.Core.Bool.{Bool, true, false}
 use mathlib.Core.Option.{Option, none, some}
 use mathlib.Core.List.{List, [], _∷_}
-use Prim.Native.Nat.{ℕ, zero, suc, _+_, _-_}
-use lib.IntN.{ℤ, pos, negsuc}
+use Prim.Native.Nat.{ℕ, zero, suc, _+_}
+use lib.IntN.{ℤ}
 use lib.ListN.{drop}
 use Rattle.minuska.specs.Basics.{_>>=_, provided}
-use Rattle.minuska.specs.Computed.Read.{readNode}
+use Rattle.minuska.specs.Computed.Read.{readNode, childrenAt}
 use Rattle.minuska.specs.Function.{functionAt}
 use Rattle.minuska.specs.Term.{Label, role, groundAt}
-use Rattle.term.specs.declared.Count.{Count}
-use Rattle.term.specs.declared.Count.the-variants.{Is, Bad}
 use Rattle.term.specs.declared.Place.{Place}
 use Rattle.term.specs.declared.Place.the-variants.{At, Nowhere}
 
@@ -39,17 +37,16 @@ extent p (t ∷ []) (suc k) = none
 extent p (t ∷ d ∷ ws) zero = some 0
 extent p (t ∷ d ∷ ws) (suc k) = childrenIf p t d >>= λ m. extent p ws (m + k) >>= λ e. some (2 + e)
 
-abbrev pub countOf : Option ℕ → Count
-countOf none = Bad
-countOf (some m) = Is m
-
 abbrev pub placeOf : ℕ → Option ℕ → Place
 placeOf at none = Nowhere
 placeOf at (some m) = At (at + m)
 
--- SHUT NAMES, which contracts cite. The child count that two words say, if they are a node's.
-unfoldable pub childCountOf : ℤ → ℤ → Count
-childCountOf t d = countOf (childrenIf anyLabel t d)
+-- SHUT NAMES, which contracts cite. The column "children": the count that a node's two words say, and a function's arity ("by function").
+unfoldable pub childrenOf : ℤ → ℤ → ℕ
+childrenOf t d = childrenAt t d
+
+unfoldable pub arityOf : ℕ → ℕ
+arityOf code = functionAt code .arity
 
 -- The place behind the term that starts at a place; if `ground`, behind the ground term.
 unfoldable pub termEnd : List ℤ → ℕ → Place
@@ -62,14 +59,6 @@ termEndIf ground ws at = placeOf at (extent (labelTest ground) (drop at ws) 1)
 unfoldable pub groundTermsEnd : List ℤ → ℕ → ℕ → Place
 groundTermsEnd ws at k = placeOf at (extent groundLabel (drop at ws) k)
 
--- The column "children": a function's arity ("by function"); any other node's count, by its tag alone ("0", "tag minus 8").
-unfoldable pub arityOf : ℕ → ℕ
-arityOf code = functionAt code .arity
-
-unfoldable pub childrenByTag : ℤ → ℕ
-childrenByTag (pos t) = t - 8
-childrenByTag (negsuc t) = 0
-
--- What a test of two words says: whether they are a ground term's node. Its child count is then its tag's.
+-- What a test of two words says: whether they are a ground term's node.
 pub record GroundNode (t d : ℤ) (passes : Bool) : Type 0 where
-  pub children : childrenIf groundLabel t d ≡ provided passes (childrenByTag t)
+  pub children : childrenIf groundLabel t d ≡ provided passes (childrenOf t d)

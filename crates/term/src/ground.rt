@@ -1,22 +1,25 @@
 // The walk over ground terms whose words are not checked yet.
 use crate::Place;
-use crate::children_by_tag;
+use crate::SYMBOLS;
+use crate::plain_children;
 use crate::word;
 ghost use mathlib.Core.Path.{_≡_};
 ghost use Prim.Native.Nat.{_≤_};
 ghost use lib.ListN.{length};
+ghost use Rattle.minuska.specs.Computed.Read.{maxChildren};
 ghost use Rattle.term.specs.Datum.{groundRanges};
 ghost use Rattle.term.specs.TermEnd.{GroundNode, groundTermsEnd};
 
-const VARIABLE: i64 = -1;
+// The most datum of a tag that no ground term has.
+const NO_VARIABLE: i64 = -1;
 
-const CALL: i64 = -1;
+const NO_CALL: i64 = -1;
 
 const NO_NODE: i64 = -1;
 
-const FIRST_SYMBOL: i64 = 0;
+const LEAST_SYMBOL: i64 = 0;
 
-const LAST_SYMBOL: i64 = 4095;
+const MOST_SYMBOL: i64 = SYMBOLS - 1;
 
 // The range of a ground term's datum by tag: sixteen times the least, then sixteen times the most. A tag that it has none of has an empty range.
 // The walks are lent this list, so that it is laid out once and not at every node.
@@ -29,30 +32,30 @@ pub const RANGES: [i64; 32] = [
     0,
     0,
     0,
-    FIRST_SYMBOL,
-    FIRST_SYMBOL,
-    FIRST_SYMBOL,
-    FIRST_SYMBOL,
-    FIRST_SYMBOL,
-    FIRST_SYMBOL,
-    FIRST_SYMBOL,
-    FIRST_SYMBOL,
+    LEAST_SYMBOL,
+    LEAST_SYMBOL,
+    LEAST_SYMBOL,
+    LEAST_SYMBOL,
+    LEAST_SYMBOL,
+    LEAST_SYMBOL,
+    LEAST_SYMBOL,
+    LEAST_SYMBOL,
     0,
     1,
     9223372036854775807,
-    VARIABLE,
-    CALL,
+    NO_VARIABLE,
+    NO_CALL,
     NO_NODE,
     NO_NODE,
     NO_NODE,
-    LAST_SYMBOL,
-    LAST_SYMBOL,
-    LAST_SYMBOL,
-    LAST_SYMBOL,
-    LAST_SYMBOL,
-    LAST_SYMBOL,
-    LAST_SYMBOL,
-    LAST_SYMBOL,
+    MOST_SYMBOL,
+    MOST_SYMBOL,
+    MOST_SYMBOL,
+    MOST_SYMBOL,
+    MOST_SYMBOL,
+    MOST_SYMBOL,
+    MOST_SYMBOL,
+    MOST_SYMBOL,
 ];
 
 // Whether two words are a node of a ground term.
@@ -78,7 +81,7 @@ pub fn is_ground(ranges: &[i64; 32], t: i64, d: i64) -> bool
 
 // The place behind so many ground terms that start at a place: `k` are still to come.
 pub fn ground_terms(s: &[i64], at: usize, count: usize, ranges: &[i64; 32]) -> Place
-    requires { ⌜ (at ≤ length (now s)) × (count ≤ 7) × (now ranges ≡ groundRanges) ⌝ }
+    requires { ⌜ (at ≤ length (now s)) × (count ≤ maxChildren) × (now ranges ≡ groundRanges) ⌝ }
     ensures { λ r. ⌜ r ≡ groundTermsEnd (now (s .entry)) at count ⌝ }
 {
     let n = s.len();
@@ -93,7 +96,7 @@ pub fn ground_terms(s: &[i64], at: usize, count: usize, ranges: &[i64; 32]) -> P
         if !is_ground(ranges, t, d) {
             return Place::Nowhere;
         }
-        k = k - 1 + children_by_tag(t);
+        k = k - 1 + plain_children(t, d);
         i += 2;
     }
     Place::At(i)

@@ -4,10 +4,11 @@ ghost use Prim.Native.Nat.{_<_};
 ghost use lib.IntN.{pos};
 ghost use lib.ListN.{length, getD};
 ghost use Rattle.minuska.specs.Bridge.Place.{GroundAt, GroundEnds};
+ghost use Rattle.minuska.specs.Computed.Read.{plainChildren};
 ghost use Rattle.minuska.specs.Contract.{CheckConfigurationContract, SubtermContract};
+ghost use Rattle.minuska.specs.Function.{functions};
 ghost use Rattle.term.specs.TermAt.{TermAt, TermEnds, NodeWords};
-ghost use Rattle.term.specs.TermEnd.{arityOf, childrenByTag, childCountOf};
-ghost use Rattle.term.specs.declared.Count.the-variants.{Is};
+ghost use Rattle.term.specs.TermEnd.{arityOf, childrenOf};
 
 pub mod ground;
 
@@ -15,11 +16,24 @@ use crate::ground::ground_terms;
 use minuska::Check;
 use minuska::Refusal;
 
-// What two words say: a node with so many children, or no node. The definitions answer with it; no routine does.
-pub enum Count {
-    Is(usize),
-    Bad,
-}
+// Document 01's table of nodes: its tags, a symbol's the one with no children, and how many variables, functions and symbols there are.
+pub const ERROR: i64 = 0;
+
+pub const TRUTH: i64 = 1;
+
+pub const WHOLE: i64 = 2;
+
+pub const VARIABLE: i64 = 3;
+
+pub const CALL: i64 = 4;
+
+pub const SYMBOL: i64 = 8;
+
+pub const VARIABLES: usize = 16;
+
+pub const FUNCTIONS: usize = 15;
+
+pub const SYMBOLS: i64 = 4096;
 
 // The place behind what a walk has taken, or that it found something else.
 pub enum Place {
@@ -35,19 +49,39 @@ pub fn word(s: &[i64], i: usize) -> i64
     s[i]
 }
 
-// The arity of a function: a hexadecimal digit for each, the last one for code 0.
+// The arity of a function.
 pub fn arity(code: usize) -> usize
-    requires { ⌜ code < 15 ⌝ }
+    requires { ⌜ code < length functions ⌝ }
     ensures { λ r. ⌜ r ≡ arityOf code ⌝ }
 {
-    (0x322222211222100 >> (4 * code)) % 16
+    match code {
+        0 | 1 => 0,
+        2 | 6 | 7 => 1,
+        14 => 3,
+        _ => 2,
+    }
 }
 
-// The child count of a node that is no call, by its tag alone.
-pub fn children_by_tag(t: i64) -> usize
-    ensures { λ r. ⌜ r ≡ childrenByTag t ⌝ }
+// The child count of a node, from its two words.
+pub fn children(t: i64, d: i64) -> usize
+    requires { ⌜ NodeWords t d ⌝ }
+    ensures { λ r. ⌜ r ≡ childrenOf t d ⌝ }
 {
-    if t < 8 { 0 } else { t as usize - 8 }
+    if t != CALL {
+        return plain_children(t, d);
+    }
+    arity(d as usize)
+}
+
+// The same of a node that is no call, which is not asked here: the walks over ground terms meet none.
+fn plain_children(t: i64, d: i64) -> usize
+    ensures { λ r. ⌜ r ≡ plainChildren t d ⌝ }
+{
+    if t < SYMBOL {
+        0
+    } else {
+        t as usize - SYMBOL as usize
+    }
 }
 
 // The place behind the ground term that stands at a place.
@@ -59,21 +93,11 @@ pub fn ground_end(s: &[i64], at: usize) -> usize
     let mut rest: usize = 1;
     while 0 < rest {
         let t = word(s, i);
-        rest = rest - 1 + children_by_tag(t);
+        let d = word(s, i + 1);
+        rest = rest - 1 + plain_children(t, d);
         i += 2;
     }
     i
-}
-
-// The child count of two words that are a node's.
-fn children(t: i64, d: i64) -> usize
-    requires { ⌜ NodeWords t d ⌝ }
-    ensures { λ r. ⌜ Is r ≡ childCountOf t d ⌝ }
-{
-    if t != 4 {
-        return children_by_tag(t);
-    }
-    arity(d as usize)
 }
 
 // The place behind the term that stands at a place, which may have variables and calls.

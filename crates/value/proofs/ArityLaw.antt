@@ -2,7 +2,7 @@
 use mathlib.Core.Path.{_≡_, refl}
 use Prim.Native.Nat.{ℕ, _≤_}
 use Rattle.minuska.specs.Function.{functionAt}
-use Rattle.minuska.proofs.Bridge.ReadLaw.{arity-most}
+use Rattle.minuska.proofs.NodeLaw.{arity-most}
 use Rattle.term.specs.TermEnd.{arityOf}
 
 pub arity-is : (c : ℕ) → arityOf c ≡ functionAt c .arity

@@ -4,14 +4,14 @@ use mathlib.Core.Bool.{Bool, true, false, _&&_, cond}
 use mathlib.Core.List.{List}
 use Prim.Native.Nat.{ℕ, _+_, _^_, _<_}
 use native.Mathlib.Omega.{arith}
-use lib.Dec.{T, eqb, ltb, ltb→lt, lit<}
+use lib.Dec.{T, eqb, leb, ltb, ltb→lt, lit<}
 use lib.IntN.{ℤ, pos, natAbs}
 use lib.ListN.{getD, length}
 use mir.Syntax.{w64}
 use mir.Val.{SFits, toZ, ofZ}
 use mir.Facts.{toZ-ofZ}
 use Rattle.minuska.specs.Term.{Label, error, truth, whole, variable, call, symbol, nil, Term, single, termCount, role, groundAt, isGround}
-use Rattle.minuska.specs.Word.{tagWord, datumWord, ok, encode}
+use Rattle.minuska.specs.Word.{symbols, tagWord, datumWord, ok, encode}
 use Rattle.minuska.specs.Computed.Read.{guess, childCount, means}
 use Rattle.minuska.specs.Bridge.Place.{Stands}
 use Rattle.minuska.proofs.Tests.{and-left, provided-some}
@@ -61,7 +61,7 @@ module _ (t d : ℤ) (f : SFits w64 t) where
 pub record SymbolHead (d : ℤ) (l : Label) : Type 0 where
   pub number : ℕ
   pub is : symbol number ≡ l
-  pub small : number < 4096
+  pub small : number < symbols
   pub datum : d ≡ pos number
 
 pub symbol-head : (t d : ℤ) (l : Label) (k : ℕ) → Head t d l k → (ofZ w64 t ≡ 0 → ⊥) → (ofZ w64 t ≡ 1 → ⊥) → (ofZ w64 t ≡ 2 → ⊥) → SymbolHead d l
@@ -71,7 +71,7 @@ symbol-head t d (whole z) k h n₀ n₁ n₂ = absurd (n₂ (ap (ofZ w64) (h .ta
 symbol-head t d (variable v) k h n₀ n₁ n₂ = absurd (h .ground)
 symbol-head t d (call c) k h n₀ n₁ n₂ = absurd (h .ground)
 symbol-head t d (symbol s) k h n₀ n₁ n₂ =
-    record { number = s; is = refl; small = ltb→lt s 4096 (and-left (ltb s 4096) (ltb k 8) (h .good)); datum = h .datum }
+    record { number = s; is = refl; small = ltb→lt s symbols (and-left (ltb s symbols) (leb k 7) (h .good)); datum = h .datum }
 
 -- ---- the first two words of a ground term, and of one that stands at a place
 pub own-head : (t : Term) → T (ok (single t)) → T (isGround (single t)) → Head (tagWord (t .label) (termCount (t .children))) (datumWord (t .label)) (t .label) (termCount (t .children))

@@ -1,35 +1,17 @@
--- Reading words: no node has more than seven children; words that span k terms are read as k terms.
+-- Reading words: words that span k terms are read as k terms.
 use mathlib.Core.Path.{_≡_, refl, _∙_, ap, subst, subst⁻¹}
 use mathlib.Core.Option.{Option, some, Option·some-injective, Option·none-ne-some}
 use mathlib.Core.List.{List, [], _∷_}
-use Prim.Native.Nat.{ℕ, zero, suc, _+_, _≤_}
+use Prim.Native.Nat.{ℕ, zero, suc, _+_}
 use native.Mathlib.Omega.{arith}
-use lib.Dec.{T, eqb, leb, ltb, eqb→eq, ltb→lt, leb→le, le→leb}
+use lib.Dec.{T}
 use lib.IntN.{ℤ}
-use lib.ListN.{length}
-use Rattle.minuska.specs.Basics.{_>>=_, provided, every}
-use Rattle.minuska.specs.Term.{Label, error, truth, whole, variable, call, symbol, Forest, nil, node, Term, termCount}
+use Rattle.minuska.specs.Basics.{_>>=_, provided}
+use Rattle.minuska.specs.Term.{Label, Forest, nil, node, Term, termCount}
 use Rattle.minuska.specs.Word.{okHead, okNode}
-use Rattle.minuska.specs.Function.{Function, functions, functionAt, noFunction}
 use Rattle.minuska.specs.Computed.Read.{readNode, splitTerms, adopt, decode, sole, spanTerms, decodeTerm, readTerm}
-use Rattle.minuska.proofs.Tests.{came, and-right, every-passes, every-at, provided-true}
+use Rattle.minuska.proofs.Tests.{came, provided-true}
 use Rattle.minuska.proofs.WordLaw.{node-read}
-
--- ---- a node's children
-pub arity-most : (k : ℕ) → T (every (λ f. leb (f .arity) k) functions) → (c : ℕ) → functionAt c .arity ≤ k
-arity-most k t c =
-    leb→le (functionAt c .arity) k (every-at (λ (f : Function). T (leb (f .arity) k)) functions noFunction (every-passes (λ f. leb (f .arity) k) functions t) (le→leb 0 k (omega arith)) c)
-
-pub few-children : (l : Label) (k : ℕ) → T (okHead l k) → k ≤ 7
-few-children error k x = let e = eqb→eq k 0 x in omega arith
-few-children (truth b) k x = let e = eqb→eq k 0 x in omega arith
-few-children (whole z) k x = let e = eqb→eq k 0 x in omega arith
-few-children (variable v) k x = let e = eqb→eq k 0 (and-right (ltb v 16) (eqb k 0) x) in omega arith
-few-children (call c) k x =
-    let e = eqb→eq k (functionAt c .arity) (and-right (ltb c (length functions)) (eqb k (functionAt c .arity)) x) in
-    let h = arity-most 7 tt c in
-    omega arith
-few-children (symbol s) k x = let h = ltb→lt k 8 (and-right (ltb s 4096) (ltb k 8) x) in omega arith
 
 -- ---- words that span terms
 split-first : (k m : ℕ) (f : Forest) → termCount f ≡ k + m → (p : Forest × Forest) × (splitTerms k f ≡ some p) × (termCount (p .0) ≡ k) × (termCount (p .1) ≡ m)

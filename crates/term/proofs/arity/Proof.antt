@@ -1,11 +1,12 @@
--- `arity` meets its contract: each digit is the arity of its function.
-use mathlib.Core.Bool.{Bool, true, _&&_}
+-- `arity` meets its contract: each group of codes has the arity of its functions.
+use mathlib.Core.Path.{_≡_, subst}
+use mathlib.Core.Bool.{Bool, true, _&&_, _||_}
 use mathlib.Core.Logic.{⊎-elim}
-use Prim.Native.Nat.{ℕ, zero, suc, _*_, _/_, _%_, _^_, _≤_, _<_}
+use Prim.Native.Nat.{ℕ, zero, suc, _≤_, _<_}
 use native.Mathlib.Nat.{eq-or-lt-of-le}
 use native.Mathlib.Omega.{arith}
-use borrow.Author.Needs.{needs}
-use lib.Dec.{T, eqb, eqb→eq}
+use borrow.Author.Tests.{le-ltb}
+use lib.Dec.{T, eqb, ltb, eqb→eq}
 use Rattle.minuska.proofs.Tests.{and-left, and-right}
 use Rattle.term.specs.TermEnd.{arityOf}
 use Rattle.term.proofs.arity.Statement.{statement}
@@ -24,18 +25,38 @@ at p (suc n) t i h = ⊎-elim (λ e. rw e (and-left (p n) (below p n) t)) (λ l.
     last : (i n : ℕ) → i < suc n → i ≤ n
     last i n h = omega arith
 
-digit : ℕ → Bool
-digit n = eqb (225780461033627904 / 2 ^ (4 * n) % 16) (arityOf n)
+-- the functions from a code up to another have this arity
+group : ℕ → ℕ → ℕ → Bool
+group from to k = below (λ n. ltb n from || eqb k (arityOf n)) to
 
-mul-result : tie.Need-mul-result
-mul-result c = search needs
-
-shr-result : tie.Need-shr-result
-shr-result c = search needs
+module _ (from to k : ℕ) (t : T (group from to k)) where
+  in-group : (n : ℕ) → from ≤ n → n < to → k ≡ arityOf n
+  unfolding group
+  in-group n h i = eqb→eq k (arityOf n) (subst (λ (b : Bool). T (b || eqb k (arityOf n))) (le-ltb n from h) (at (λ n. ltb n from || eqb k (arityOf n)) to t n i))
 
 returns : tie.Need-returns
-unfolding below digit arityOf
-returns c = eqb→eq (225780461033627904 / 2 ^ (4 * c .args .code) % 16) (arityOf (c .args .code)) (at digit 15 tt (c .args .code) (search needs))
+unfolding arityOf
+returns c = rw (c .match .keys2)
+
+returns-2 : tie.Need-returns-2
+unfolding below group arityOf
+returns-2 c = in-group 0 2 0 tt _ (omega arith) (c .if1 .taken)
+
+returns-3 : tie.Need-returns-3
+unfolding below group arityOf
+returns-3 c = in-group 3 6 2 tt _ (omega arith) (c .if2 .taken)
+
+returns-4 : tie.Need-returns-4
+unfolding below group arityOf
+returns-4 c = in-group 8 14 2 tt _ (c .if3 .left) (omega arith)
+
+returns-5 : tie.Need-returns-5
+unfolding arityOf
+returns-5 c = rw (c .match .keys1)
+
+returns-6 : tie.Need-returns-6
+unfolding below group arityOf
+returns-6 c = in-group 6 8 1 tt _ (c .before .if2 .left) (c .if3 .taken)
 
 pub arity-spec : {M : Type 1} → statement M
-arity-spec = tie.close (tie.spec mul-result shr-result returns)
+arity-spec = tie.close (tie.spec returns returns-2 returns-3 returns-4 returns-5 returns-6)

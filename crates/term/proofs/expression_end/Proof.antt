@@ -1,5 +1,6 @@
 -- `expression_end` meets its contract: the terms left to read end where the term that stands at the start ends.
-use mathlib.Core.Path.{_≡_, sym, _∙_, ap, ap₂}
+use mathlib.Core.Path.{_≡_, sym, _∙_, ap₂}
+use mathlib.Core.Option.{some}
 use mathlib.Core.List.{List}
 use Prim.Native.Nat.{ℕ, _+_, _-_}
 use native.Mathlib.Omega.{arith}
@@ -11,9 +12,9 @@ use mir.Val.{SFits, toZ, ofZ}
 use mir.ValLaws.{toZ-ofZ}
 use Rattle.minuska.specs.Term.{single}
 use Rattle.minuska.specs.Word.{encode}
-use Rattle.term.specs.TermEnd.{anyLabel, extent, countOf, placeOf, childCountOf, termEnd}
-use Rattle.term.specs.declared.Count.the-variants.{Is}
-use Rattle.term.proofs.TermEndLaw.{Turn, child-count-is, place-done, place-turn, term-end-is}
+use Rattle.term.specs.TermEnd.{anyLabel, childrenIf, childrenOf, extent, placeOf, termEnd}
+use Rattle.term.proofs.NodeLaw.{children-node, count-is}
+use Rattle.term.proofs.TermEndLaw.{Turn, place-done, place-turn, term-end-is}
 use Rattle.term.proofs.ChildrenLaw.{term-ends}
 use Rattle.term.proofs.expression_end.Statement.{statement}
 use Rattle.term.proofs.expression_end.Tie as tie
@@ -51,12 +52,15 @@ module _ (c : tie.After-word2 Inv-loop μ-loop) where
   datum : toZ w64 (ofZ w64 (c .word2 .result)) ≡ getD words (i + 1) (pos 0)
   datum = let f : SFits w64 (c .word2 .result) = search needs in toZ-ofZ w64 (c .word2 .result) f ∙ c .word2 .ensures
 
-  said : childCountOf (toZ w64 (ofZ w64 (c .before .word .result))) (toZ w64 (ofZ w64 (c .word2 .result))) ≡ Is (here .count)
-  said = ap₂ childCountOf tag datum ∙ (child-count-is (getD words i (pos 0)) (getD words (i + 1) (pos 0)) ∙ ap countOf (here .children))
+  words-are : childrenIf anyLabel (toZ w64 (ofZ w64 (c .before .word .result))) (toZ w64 (ofZ w64 (c .word2 .result))) ≡ some (here .count)
+  words-are = ap₂ (childrenIf anyLabel) tag datum ∙ here .children
+
+  said : here .count ≡ childrenOf (toZ w64 (ofZ w64 (c .before .word .result))) (toZ w64 (ofZ w64 (c .word2 .result)))
+  said = count-is (children-node anyLabel (toZ w64 (ofZ w64 (c .before .word .result))) (toZ w64 (ofZ w64 (c .word2 .result))) (here .count) words-are)
 
 -- the count that was answered is the node's
 counted : (c : tie.After-children Inv-loop μ-loop) → turn (c .before .before .before) .count ≡ c .children .result
-counted c = let e = c .children .ensures ∙ said (c .before) in cc
+counted c = said (c .before) ∙ sym (c .children .ensures)
 
 loop-holds : tie.Need-loop-holds Inv-loop μ-loop
 loop-holds c = term-end-is (c .args .s .now) (c .args .at)
@@ -74,7 +78,7 @@ sub-left : tie.Need-sub-left Inv-loop μ-loop
 sub-left c = search needs
 
 children-requires : tie.Need-children-requires Inv-loop μ-loop
-children-requires c κs = record { count = here c .count; is = sym (said c) }
+children-requires c κs = record { count = here c .count; is = words-are c }
 
 add-left : tie.Need-add-left Inv-loop μ-loop
 add-left c = let e = counted c in let f = turn (c .before .before .before) .few in omega arith

@@ -1,5 +1,5 @@
 -- `ground_end` meets its contract: the terms left to read end where the ground term that stands at the start ends.
-use mathlib.Core.Path.{_≡_, sym, _∙_, ap}
+use mathlib.Core.Path.{_≡_, sym, _∙_, ap₂}
 use mathlib.Core.Bool.{true}
 use mathlib.Core.List.{List}
 use Prim.Native.Nat.{ℕ, _+_, _-_}
@@ -12,11 +12,12 @@ use mir.Syntax.{w64}
 use mir.Val.{SFits}
 use mir.ValLaws.{toZ-ofZ}
 use Rattle.minuska.specs.Bridge.Place.{Stands}
+use Rattle.minuska.specs.Computed.Read.{plainChildren}
 use Rattle.minuska.specs.Term.{Term, single, isGround}
 use Rattle.minuska.specs.Word.{encode, ok}
-use Rattle.term.specs.TermEnd.{groundLabel, childrenByTag, extent, placeOf, termEndIf}
+use Rattle.term.specs.TermEnd.{groundLabel, extent, placeOf, termEndIf}
 use Rattle.term.specs.declared.Place.the-variants.{At}
-use Rattle.term.proofs.NodeLaw.{by-tag, children-node}
+use Rattle.term.proofs.NodeLaw.{ground-count, children-node}
 use Rattle.term.proofs.TermEndLaw.{Turn, place-done, place-turn, term-end-if-is}
 use Rattle.term.proofs.ExtentLaw.{stands-ends}
 use Rattle.term.proofs.ground_end.Statement.{statement}
@@ -43,14 +44,15 @@ turn c =
     (sym (l .inv) ∙ ends-at s at (g .term) (g .good) (g .ground) (g .stands))
 
 -- the count that the code read is the node's
-counted : (c : tie.After-children-by-tag Inv-loop μ-loop) → turn (c .before .before) .count ≡ c .children-by-tag .result
+counted : (c : tie.After-plain-children Inv-loop μ-loop) → turn (c .before .before .before) .count ≡ c .plain-children .result
 counted c =
-    let s = c .before .before .before .before .args .s .now in
-    let i = c .before .before .before .loop .i in
-    let t = turn (c .before .before) in
-    let f : SFits w64 (c .before .word .result) = search needs in
-    by-tag (getD s i (pos 0)) (getD s (i + 1) (pos 0)) (t .count) (children-node groundLabel (getD s i (pos 0)) (getD s (i + 1) (pos 0)) (t .count) (t .children)) ∙
-    sym (c .children-by-tag .ensures ∙ ap childrenByTag (toZ-ofZ w64 (c .before .word .result) f ∙ c .before .word .ensures))
+    let s = c .before .before .before .before .before .args .s .now in
+    let i = c .before .before .before .before .loop .i in
+    let t = turn (c .before .before .before) in
+    let f : SFits w64 (c .before .before .word .result) = search needs in
+    let g : SFits w64 (c .before .word2 .result) = search needs in
+    ground-count (getD s i (pos 0)) (getD s (i + 1) (pos 0)) (t .count) (children-node groundLabel (getD s i (pos 0)) (getD s (i + 1) (pos 0)) (t .count) (t .children)) ∙
+    sym (c .plain-children .ensures ∙ ap₂ plainChildren (toZ-ofZ w64 (c .before .before .word .result) f ∙ c .before .before .word .ensures) (toZ-ofZ w64 (c .before .word2 .result) g ∙ c .before .word2 .ensures))
 
 loop-holds : tie.Need-loop-holds Inv-loop μ-loop
 loop-holds c = term-end-if-is true (c .args .s .now) (c .args .at)
@@ -58,28 +60,34 @@ loop-holds c = term-end-if-is true (c .args .s .now) (c .args .at)
 word-requires : tie.Need-word-requires Inv-loop μ-loop
 word-requires c κs = let r = turn c .room in omega arith
 
+add-word : tie.Need-add-word Inv-loop μ-loop
+add-word c = let r = turn (c .before) .room in omega arith
+
+word-requires-2 : tie.Need-word-requires-2 Inv-loop μ-loop
+word-requires-2 c κs = let r = turn (c .before) .room in omega arith
+
 sub-rest : tie.Need-sub-rest Inv-loop μ-loop
 sub-rest c = search needs
 
-children-by-tag-requires : tie.Need-children-by-tag-requires Inv-loop μ-loop
-children-by-tag-requires c κs = tt
+plain-children-requires : tie.Need-plain-children-requires Inv-loop μ-loop
+plain-children-requires c κs = tt
 
 add-rest : tie.Need-add-rest Inv-loop μ-loop
-add-rest c = let e = counted c in let f = turn (c .before .before) .few in omega arith
+add-rest c = let e = counted c in let f = turn (c .before .before .before) .few in omega arith
 
 add-i : tie.Need-add-i Inv-loop μ-loop
-add-i c = let r = turn (c .before .before) .room in omega arith
+add-i c = let r = turn (c .before .before .before) .room in omega arith
 
 loop-less : tie.Need-loop-less Inv-loop μ-loop
-loop-less c = let r = turn (c .before .before) .room in omega arith
+loop-less c = let r = turn (c .before .before .before) .room in omega arith
 
 loop-again : tie.Need-loop-again Inv-loop μ-loop
 loop-again c =
-    let s = c .before .before .before .before .args .s .now in
-    let at = c .before .before .before .before .args .at in
-    let g = c .before .before .before .before .pre in
+    let s = c .before .before .before .before .before .args .s .now in
+    let at = c .before .before .before .before .before .args .at in
+    let g = c .before .before .before .before .before .pre in
     ends-at s at (g .term) (g .good) (g .ground) (g .stands) ∙
-    sym (rw (counted c) at (turn (c .before .before) .rest))
+    sym (rw (counted c) at (turn (c .before .before .before) .rest))
 
 returns : tie.Need-returns Inv-loop μ-loop
 returns c =
@@ -97,8 +105,10 @@ ground-end-spec =
     μ-loop
     loop-holds
     word-requires
+    add-word
+    word-requires-2
     sub-rest
-    children-by-tag-requires
+    plain-children-requires
     add-rest
     add-i
     loop-less

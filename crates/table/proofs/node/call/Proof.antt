@@ -1,12 +1,19 @@
 -- `call` meets its contract.
-use mathlib.Core.Path.{_≡_, _∙_, ap}
+use mathlib.Core.Path.{_≡_, sym, _∙_, ap, subst}
+use Prim.Native.Nat.{_<_}
 use native.Mathlib.Omega.{arith}
 use borrow.Author.Needs.{needs}
-use Rattle.term.specs.TermEnd.{arityOf}
+use lib.IntN.{pos}
+use lib.ListN.{length}
+use mir.Facts.{toZ-ofZ}
+use Rattle.minuska.specs.Computed.Read.{callTag}
+use Rattle.minuska.specs.Function.{functions}
+use Rattle.term.specs.TermAt.{NodeWords}
+use Rattle.term.specs.TermEnd.{childrenOf}
 use Rattle.table.specs.Number.{naturalOf}
 use Rattle.table.specs.declared.node.Node.the-variants as N
 use Rattle.table.proofs.NumberLaw.{via}
-use Rattle.table.proofs.NodeLaw.{no-call, a-call}
+use Rattle.table.proofs.NodeLaw.{no-call, call-words, a-call}
 use Rattle.table.proofs.node.call.Statement.{statement}
 use Rattle.table.proofs.node.call.Tie as tie
 
@@ -19,14 +26,17 @@ number c = via naturalOf (c .before .fits .d) (c .natural .ensures)
 returns : tie.Need-returns
 returns c = let n = number (c .before) in no-call (c .before .before .args .d) (omega arith)
 
-arity-requires : tie.Need-arity-requires
-arity-requires c κs = search needs
+-- the code is a function's
+code : (c : tie.Else1) → naturalOf (c .before .before .args .d) < length functions
+code c = let n = number (c .before) in let h = c .if1 .left in omega arith
+
+children-requires : tie.Need-children-requires
+children-requires c κs = let s = c .before .before in subst (NodeWords (pos callTag)) (sym (toZ-ofZ (s .fits .d))) (call-words (s .args .d) (code c))
 
 returns-2 : tie.Need-returns-2
 returns-2 c =
-    let n = number (c .before .before) in
-    let h = c .before .if1 .left in
-    ap N.Call (c .arity .ensures ∙ ap arityOf n) ∙ a-call (c .before .before .before .args .d) (omega arith)
+    let s = c .before .before .before in
+    ap N.Call (via (childrenOf (pos callTag)) (s .fits .d) (c .children .ensures)) ∙ a-call (s .args .d) (code (c .before))
 
 pub call-spec : {M : Type 1} → statement M
-call-spec = tie.close (tie.spec natural-requires returns arity-requires returns-2)
+call-spec = tie.close (tie.spec natural-requires returns children-requires returns-2)

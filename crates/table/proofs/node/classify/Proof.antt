@@ -1,15 +1,19 @@
 -- `classify` meets its contract.
-use mathlib.Core.Path.{_≡_, sym, _∙_, ap, subst}
+use mathlib.Core.Path.{_≡_, sym, _∙_, ap, subst, subst₂}
 use mathlib.Core.Bool.{Bool, true, false}
 use borrow.Author.Needs.{needs}
 use lib.IntN.{ℤ, pos}
 use mir.Syntax.{w64}
 use mir.Val.{ofZ}
+use mir.Facts.{toZ-ofZ}
+use Rattle.minuska.specs.Computed.Read.{variableTag, callTag}
+use Rattle.term.proofs.GroundLaw.{ground-words}
 use Rattle.term.proofs.SignedLaw.{with-bits}
-use Rattle.term.specs.TermEnd.{childrenByTag, GroundNode}
+use Rattle.term.specs.TermAt.{NodeWords}
+use Rattle.term.specs.TermEnd.{childrenOf, GroundNode}
 use Rattle.table.specs.Node.{nodeOf}
 use Rattle.table.specs.declared.node.Node.the-variants as N
-use Rattle.table.proofs.NumberLaw.{via, said₂}
+use Rattle.table.proofs.NumberLaw.{via, via₂, said₂}
 use Rattle.table.proofs.NodeLaw.{a-plain, no-plain}
 use Rattle.table.proofs.node.classify.Statement.{statement}
 use Rattle.table.proofs.node.classify.Tie as tie
@@ -20,7 +24,7 @@ variable-requires c κs = search needs
 returns : tie.Need-returns
 returns c =
     let s = c .before .before in
-    via (nodeOf (pos 3)) (s .fits .d) (c .variable .ensures) ∙ ap (λ (t : ℤ). nodeOf t (s .args .d)) (sym (with-bits (s .args .t) 3 (s .fits .t) (c .before .if1 .taken)))
+    via (nodeOf (pos variableTag)) (s .fits .d) (c .variable .ensures) ∙ ap (λ (t : ℤ). nodeOf t (s .args .d)) (sym (with-bits (s .args .t) variableTag (s .fits .t) (c .before .if1 .taken)))
 
 call-requires : tie.Need-call-requires
 call-requires c κs = search needs
@@ -28,7 +32,7 @@ call-requires c κs = search needs
 returns-2 : tie.Need-returns-2
 returns-2 c =
     let s = c .before .before .before in
-    via (nodeOf (pos 4)) (s .fits .d) (c .call .ensures) ∙ ap (λ (t : ℤ). nodeOf t (s .args .d)) (sym (with-bits (s .args .t) 4 (s .fits .t) (c .before .if2 .taken)))
+    via (nodeOf (pos callTag)) (s .fits .d) (c .call .ensures) ∙ ap (λ (t : ℤ). nodeOf t (s .args .d)) (sym (with-bits (s .args .t) callTag (s .fits .t) (c .before .if2 .taken)))
 
 is-ground-requires : tie.Need-is-ground-requires
 is-ground-requires c κs = search needs
@@ -39,14 +43,16 @@ tested c b e =
     let s = c .before .before .before in
     subst (GroundNode (s .args .t) (s .args .d)) e (said₂ (λ (x y : ℤ). GroundNode x y (c .is-ground .result)) (s .fits .t) (s .fits .d) (c .is-ground .ensures))
 
-children-by-tag-requires : tie.Need-children-by-tag-requires
-children-by-tag-requires c κs = search needs
+children-requires : tie.Need-children-requires
+children-requires c κs =
+    let s = c .before .before .before .before in
+    subst₂ NodeWords (sym (toZ-ofZ (s .fits .t))) (sym (toZ-ofZ (s .fits .d))) (ground-words (s .args .t) (s .args .d) (tested (c .before) true (c .if3 .taken)))
 
 returns-3 : tie.Need-returns-3
 returns-3 c =
     let u = c .before .before in
     let s = u .before .before .before in
-    ap N.Plain (via childrenByTag (s .fits .t) (c .children-by-tag .ensures)) ∙ a-plain (s .args .t) (s .args .d) (tested u true (c .before .if3 .taken))
+    ap N.Plain (via₂ childrenOf (s .fits .t) (s .fits .d) (c .children .ensures)) ∙ a-plain (s .args .t) (s .args .d) (tested u true (c .before .if3 .taken))
 
 returns-4 : tie.Need-returns-4
 returns-4 c =
@@ -63,6 +69,6 @@ classify-spec =
     call-requires
     returns-2
     is-ground-requires
-    children-by-tag-requires
+    children-requires
     returns-3
     returns-4)

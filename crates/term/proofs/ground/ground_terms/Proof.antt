@@ -11,14 +11,15 @@ use mir.Syntax.{w64}
 use mir.Val.{SFits}
 use mir.ValLaws.{toZ-ofZ}
 use Rattle.minuska.specs.Basics.{provided}
-use Rattle.term.specs.TermEnd.{groundLabel, childrenByTag, childrenIf, countOf, GroundNode, extent, placeOf, groundTermsEnd}
-use Rattle.term.proofs.NodeLaw.{NodeAt, node-at}
+use Rattle.minuska.specs.Computed.Read.{plainChildren, maxChildren}
+use Rattle.term.specs.TermEnd.{groundLabel, childrenOf, childrenIf, GroundNode, extent, placeOf, groundTermsEnd}
+use Rattle.term.proofs.NodeLaw.{NodeAt, node-at, children-node, ground-count}
 use Rattle.term.proofs.TermEndLaw.{ground-terms-are, place-done, place-short, place-bad, place-on}
 use Rattle.term.proofs.ground.ground_terms.Statement.{statement}
 use Rattle.term.proofs.ground.ground_terms.Tie as tie
 
 abbrev Inv-loop : tie.InvT-loop
-Inv-loop s at count ranges n i₀ k₀ i k = (n ≡ length s) × (i ≤ length s) × (k ≤ 3 * i + 7) × (groundTermsEnd s at count ≡ placeOf i (extent groundLabel (drop i s) k))
+Inv-loop s at count ranges n i₀ k₀ i k = (n ≡ length s) × (i ≤ length s) × (k ≤ maxChildren * i + maxChildren) × (groundTermsEnd s at count ≡ placeOf i (extent groundLabel (drop i s) k))
 
 abbrev μ-loop : tie.MeasureT-loop
 μ-loop s at count ranges n i₀ k₀ i k = length s - i
@@ -61,12 +62,12 @@ passed false m e = absurd (true≢false e)
 room : (c : tie.After-word2 Inv-loop μ-loop) → c .before .before .before .before .loop .i + 2 ≤ length (c .before .before .before .before .before .args .s .now)
 room c = let v = c .before .before .before .before .loop .inv in omega arith
 
-moved : {a b t d : ℤ} {r : Bool} → a ≡ t → b ≡ d → GroundNode a b r → childrenIf groundLabel t d ≡ provided r (childrenByTag t)
-moved {r = r} p q g = sym (ap₂ (childrenIf groundLabel) p q) ∙ (g .children ∙ ap (λ (z : ℤ). provided r (childrenByTag z)) p)
+moved : {a b t d : ℤ} {r : Bool} → a ≡ t → b ≡ d → GroundNode a b r → childrenIf groundLabel t d ≡ provided r (childrenOf t d)
+moved {r = r} p q g = sym (ap₂ (childrenIf groundLabel) p q) ∙ (g .children ∙ ap₂ (λ (x y : ℤ). provided r (childrenOf x y)) p q)
 
 read : (c : tie.After-is-ground Inv-loop μ-loop) →
     childrenIf groundLabel (getD (c .before .before .before .before .before .before .args .s .now) (c .before .before .before .before .before .loop .i) (pos 0)) (getD (c .before .before .before .before .before .before .args .s .now) (c .before .before .before .before .before .loop .i + 1) (pos 0)) ≡
-    provided (c .is-ground .result) (childrenByTag (getD (c .before .before .before .before .before .before .args .s .now) (c .before .before .before .before .before .loop .i) (pos 0)))
+    provided (c .is-ground .result) (childrenOf (getD (c .before .before .before .before .before .before .args .s .now) (c .before .before .before .before .before .loop .i) (pos 0)) (getD (c .before .before .before .before .before .before .args .s .now) (c .before .before .before .before .before .loop .i + 1) (pos 0)))
 read c =
     let f : SFits w64 (c .before .before .word .result) = search needs in
     let h : SFits w64 (c .before .word2 .result) = search needs in
@@ -77,31 +78,32 @@ returns-2 c =
     let u = c .before in
     let s = u .before .before .before .before .before .before .args .s .now in
     let l = u .before .before .before .before .before .loop in
-    sym (l .inv .3 ∙ place-bad groundLabel s (l .i) (l .k) (room (u .before)) (u .before .before .before .before .loop-test .taken) (read u ∙ failed (u .is-ground .result) (childrenByTag (getD s (l .i) (pos 0))) (c .if2 .taken)))
+    sym (l .inv .3 ∙ place-bad groundLabel s (l .i) (l .k) (room (u .before)) (u .before .before .before .before .loop-test .taken) (read u ∙ failed (u .is-ground .result) (childrenOf (getD s (l .i) (pos 0)) (getD s (l .i + 1) (pos 0))) (c .if2 .taken)))
 
 sub-k : tie.Need-sub-k Inv-loop μ-loop
 sub-k c = search needs
 
-children-by-tag-requires : tie.Need-children-by-tag-requires Inv-loop μ-loop
-children-by-tag-requires c κs = search needs
+plain-children-requires : tie.Need-plain-children-requires Inv-loop μ-loop
+plain-children-requires c κs = search needs
 
--- the node that stands at i, and the count that the code reads
-count : (c : tie.After-children-by-tag Inv-loop μ-loop) → c .children-by-tag .result ≡ childrenByTag (getD (c .before .before .before .before .before .before .before .before .args .s .now) (c .before .before .before .before .before .before .before .loop .i) (pos 0))
-count c =
-    let r = c .before .before .before .before .word .result in
-    let f : SFits w64 (c .before .before .before .before .word .result) = search needs in
-    c .children-by-tag .ensures ∙ ap childrenByTag (toZ-ofZ w64 r f ∙ c .before .before .before .before .word .ensures)
-
-node : (c : tie.After-children-by-tag Inv-loop μ-loop) → NodeAt groundLabel (c .before .before .before .before .before .before .before .before .args .s .now) (c .before .before .before .before .before .before .before .loop .i) (c .children-by-tag .result)
+-- the node that stands at i, with the count that the code reads
+node : (c : tie.After-plain-children Inv-loop μ-loop) → NodeAt groundLabel (c .before .before .before .before .before .before .before .before .args .s .now) (c .before .before .before .before .before .before .before .loop .i) (c .plain-children .result)
 node c =
     let s = c .before .before .before .before .before .before .before .before .args .s .now in
     let i = c .before .before .before .before .before .before .before .loop .i in
     let t = getD s i (pos 0) in
-    node-at groundLabel s i (c .children-by-tag .result)
-    (sym (ap countOf (read (c .before .before) ∙ (passed (c .before .before .is-ground .result) (childrenByTag t) (c .before .if2 .left) ∙ ap {B = Option ℕ} some (sym (count c))))))
+    let d = getD s (i + 1) (pos 0) in
+    let x = c .before .before .before .before .word .result in
+    let y = c .before .before .before .word2 .result in
+    let f : SFits w64 (c .before .before .before .before .word .result) = search needs in
+    let g : SFits w64 (c .before .before .before .word2 .result) = search needs in
+    let e = read (c .before .before) ∙ passed (c .before .before .is-ground .result) (childrenOf t d) (c .before .if2 .left) in
+    let q = c .plain-children .ensures ∙ ap₂ plainChildren (toZ-ofZ w64 x f ∙ c .before .before .before .before .word .ensures) (toZ-ofZ w64 y g ∙ c .before .before .before .word2 .ensures) in
+    node-at groundLabel s i (c .plain-children .result)
+    (e ∙ ap {B = Option ℕ} some (ground-count t d (childrenOf t d) (children-node groundLabel t d (childrenOf t d) e) ∙ sym q))
 
 add-k : tie.Need-add-k Inv-loop μ-loop
-add-k c = let q = node c .few in let v = c .before .before .before .before .before .before .before .loop .inv in search needs
+add-k c = let q = node c .bounded in let v = c .before .before .before .before .before .before .before .loop .inv in search needs
 
 add-i : tie.Need-add-i Inv-loop μ-loop
 add-i c = search needs
@@ -114,9 +116,9 @@ loop-again c =
     let u = c .before .before in
     let s = u .before .before .before .before .before .before .args .s .now in
     let l = u .before .before .before .before .before .loop in
-    let q = node c .few in
+    let q = node c .bounded in
     let v = l .inv in
-    (refl, room (u .before), omega arith, v .3 ∙ place-on groundLabel s (l .i) (l .k) (room (u .before)) (u .before .before .before .before .loop-test .taken) (c .children-by-tag .result) (node c .children))
+    (refl, room (u .before), omega arith, v .3 ∙ place-on groundLabel s (l .i) (l .k) (room (u .before)) (u .before .before .before .before .loop-test .taken) (c .plain-children .result) (node c .children))
 
 returns-3 : tie.Need-returns-3 Inv-loop μ-loop
 returns-3 c =
@@ -140,7 +142,7 @@ ground-terms-spec =
     is-ground-requires
     returns-2
     sub-k
-    children-by-tag-requires
+    plain-children-requires
     add-k
     add-i
     loop-less

@@ -9,18 +9,17 @@ use lib.IntN.{ℤ, pos, natAbs}
 use lib.ListN.{getD}
 use lib.Signed.{ltZ}
 use mir.Syntax.{w64}
-use mir.Val.{SFits, toZ, ofZ}
+use mir.Val.{toZ, ofZ}
 use mir.ValLaws.{toZ-ofZ}
 use Rattle.term.specs.Datum.{groundLeasts, groundMosts}
 use Rattle.term.specs.TermEnd.{GroundNode}
 use Rattle.term.proofs.SignedLaw.{Natural, natural, order}
-use Rattle.term.proofs.DatumLaw.{low-tag, high-tag}
-use Rattle.term.proofs.GroundLaw.{least-at, most-at, no-ground, below-ground, above-ground, in-ground}
+use Rattle.term.proofs.GroundLaw.{least-at, most-at, low-tag, high-tag, low-datum, high-datum, in-range}
 use Rattle.term.proofs.ground.is_ground.Statement.{statement}
 use Rattle.term.proofs.ground.is_ground.Tie as tie
 
 returns : tie.Need-returns
-returns c = let a = c .before .args in no-ground (a .t) (a .d) (low-tag (a .t) (a .d) (rw (toZ-ofZ w64 (a .t) (c .before .fits .t)) at (c .if1 .taken)))
+returns c = let a = c .before .args in low-tag (a .t) (a .d) (rw (toZ-ofZ w64 (a .t) (c .before .fits .t)) at (c .if1 .taken))
 
 -- the tag as a number, and an answer about that number
 module _ (c : tie.Else1) where
@@ -37,7 +36,7 @@ returns-2 : tie.Need-returns-2
 returns-2 c =
     let u = c .before in
     let a = u .before .args in
-    by-tag u (no-ground (pos (tag u .number)) (a .d) (high-tag (tag u .number) (a .d) (u .before .fits .d) (rw (tag u .gives) at (c .if2 .taken))))
+    by-tag u (high-tag (tag u .number) (a .d) (u .before .fits .d) (rw (tag u .gives) at (c .if2 .taken)))
 
 mul-if3 : tie.Need-mul-if3
 mul-if3 c = search needs
@@ -60,9 +59,8 @@ module _ (c : tie.After-if32) where
 
 returns-3 : tie.Need-returns-3
 returns-3 c =
-    let u = c .before .before in
-    let v = u .before in
-    by-tag v (below-ground (tag v .number) (v .before .args .d) (small u) (v .before .fits .d) (below (c .before) true (c .if3 .taken)))
+    let v = c .before .before .before in
+    by-tag v (low-datum (tag v .number) (v .before .args .d) (v .before .fits .d) (below (c .before) true (c .if3 .taken)))
 
 add-if4 : tie.Need-add-if4
 add-if4 c = search needs
@@ -87,15 +85,14 @@ module _ (c : tie.After-if42) where
 
 returns-4 : tie.Need-returns-4
 returns-4 c =
-    let u = c .before .before .before .before in
-    let v = u .before in
-    by-tag v (above-ground (tag v .number) (v .before .args .d) (small u) (v .before .fits .d) (above (c .before) true (c .if4 .taken)))
+    let v = c .before .before .before .before .before in
+    by-tag v (high-datum (tag v .number) (v .before .args .d) (v .before .fits .d) (above (c .before) true (c .if4 .taken)))
 
 returns-5 : tie.Need-returns-5
 returns-5 c =
     let u = c .before .before .before .before in
     let v = u .before in
-    by-tag v (in-ground (tag v .number) (v .before .args .d) (small u) (below (c .before .before .before) false (c .before .before .if3 .left)) (above (c .before) false (c .if4 .left)))
+    by-tag v (in-range (tag v .number) (v .before .args .d) (small u) (record { low = below (c .before .before .before) false (c .before .before .if3 .left); high = above (c .before) false (c .if4 .left) }))
 
 pub is-ground-spec : {M : Type 1} → statement M
 is-ground-spec =
