@@ -14,6 +14,7 @@ use Rattle.minuska.specs.Word.{ok, encode}
 use Rattle.minuska.specs.Satisfaction.{SideCondition}
 use Rattle.minuska.specs.Rule.{Rule, isSymbolic, isExpressionTerm, covers, okTerm, okCondition, okRule}
 use Rattle.minuska.specs.Computed.Read.{numberBelow, readTerm, readConditions, readRule}
+use Rattle.minuska.specs.Bridge.Place.{rightFrom, conditionsFrom, endFrom, rightWords, conditionsWords}
 use Rattle.minuska.proofs.Tests.{and-both, provided-some, provided-true}
 use Rattle.minuska.proofs.Good.{good}
 use Rattle.table.specs.declared.node.Level.the-variants.{Left, Right}
@@ -182,4 +183,7 @@ module _ (ws : List ℤ) (at k : ℕ) (head : Head ws at k) where
           let p = l .ends in
           let q = r .ends in
           let s = c .ends in
-          record { rule = rule; read = e; rightIs = cc; conditionsIs = cc; endIs = cc }
+          let a : rightFrom at rule ≡ right = sym p in
+          let b : conditionsFrom at rule ≡ conditions = ap (λ (m : ℕ). m + length (rightWords rule)) a ∙ sym q in
+          let z : endFrom at rule ≡ end = ap (λ (m : ℕ). m + length (conditionsWords rule)) b ∙ sym s in
+          record { rule = rule; read = e; rightIs = a; conditionsIs = b; endIs = z }
