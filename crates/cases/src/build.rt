@@ -1,5 +1,6 @@
 // Words read from a text, and parts of slices. A place out of range is left alone.
 use value::builtin::Scalar;
+ghost use Prim.Native.Nat.{_≤_};
 
 // The first words of a slice; all, if there are fewer.
 pub fn front(words: &[i64], n: usize) -> &[i64] {
@@ -33,6 +34,17 @@ pub fn number(z: i64) -> usize {
     } else {
         z as usize
     }
+}
+
+// A word as a number of at most so many.
+pub fn at_most(z: i64, most: usize) -> usize
+    ensures { λ r. ⌜ r ≤ most ⌝ }
+{
+    let n = number(z);
+    if most < n {
+        return most;
+    }
+    n
 }
 
 // A word as a number of 16 bits; the largest, if it is none.
@@ -74,12 +86,14 @@ fn signed(size: usize, minus: bool) -> i64 {
     size as i64
 }
 
-// How many words stand, and what is known of the next one.
+// How many words stand; where the open group starts and how many words it is to have; what is known of the next word.
 struct Reading {
     count: usize,
-    started: bool,
-    minus: bool,
+    start: usize,
+    total: usize,
     size: usize,
+    minus: bool,
+    started: bool,
 }
 
 fn is_digit(byte: u8) -> bool {
@@ -89,39 +103,84 @@ fn is_digit(byte: u8) -> bool {
     byte <= b'9'
 }
 
+// The words from `start` to `end` again and again, up to so many in all or to the slice's end; and the place behind them.
+fn repeat(words: &mut [i64], start: usize, end: usize, total: usize) -> usize {
+    if end < start {
+        return end;
+    }
+    let mut from = start;
+    let mut at = end;
+    while at < words.len() {
+        if total <= at - start {
+            return at;
+        }
+        word(words, at, term::word(words, from));
+        from += 1;
+        at += 1;
+    }
+    at
+}
+
+// A word that has started is put; and the place behind it.
+fn flushed(r: Reading, words: &mut [i64]) -> usize {
+    if r.started {
+        return word(words, r.count, signed(r.size, r.minus));
+    }
+    r.count
+}
+
 // One byte more.
 fn with_byte(r: Reading, byte: u8, words: &mut [i64]) -> Reading {
     if is_digit(byte) {
         return Reading {
             count: r.count,
-            started: true,
-            minus: r.minus,
+            start: r.start,
+            total: r.total,
             size: with_digit(r.size, byte),
+            minus: r.minus,
+            started: true,
         };
     }
-    if r.started {
+    if byte == b'x' {
         return Reading {
-            count: word(words, r.count, signed(r.size, r.minus)),
-            started: false,
-            minus: byte == b'-',
+            count: r.count,
+            start: r.count,
+            total: r.size,
             size: 0,
+            minus: false,
+            started: false,
+        };
+    }
+    let end = flushed(r, words);
+    if byte == b')' {
+        return Reading {
+            count: repeat(words, r.start, end, r.total),
+            start: 0,
+            total: 0,
+            size: 0,
+            minus: false,
+            started: false,
         };
     }
     Reading {
-        count: r.count,
-        started: false,
-        minus: byte == b'-',
+        count: end,
+        start: r.start,
+        total: r.total,
         size: 0,
+        minus: byte == b'-',
+        started: false,
     }
 }
 
-// The words of a text, parted by other bytes, at the start of a slice; and how many.
+// The words of a text, parted by other bytes, its groups written out, at the start of a slice; and how many.
 pub fn words(text: &[u8], words: &mut [i64]) -> usize {
     let mut r = Reading {
         count: 0,
-        started: false,
-        minus: false,
+        start: 0,
+        total: 0,
         size: 0,
+        minus: false,
+        started: false,
     };
     let mut i = 0;
     while i < text.len() {

@@ -1,4 +1,6 @@
 // The calls: each prints its name, the answer, and every lent slice whole. Out held 77 before, spare 66, choices 99, work 55.
+use crate::build::at_most;
+use crate::build::number;
 use value::builtin::Scalar;
 
 fn named(name: &[u8]) {
@@ -7,6 +9,9 @@ fn named(name: &[u8]) {
 }
 
 pub fn table(name: &[u8], words: &[i64]) {
+    if name.len() == 0 {
+        return;
+    }
     crate::show::text(b"table, ");
     named(name);
     crate::show::check(table::check_table(words));
@@ -14,6 +19,9 @@ pub fn table(name: &[u8], words: &[i64]) {
 }
 
 pub fn configuration(name: &[u8], words: &[i64]) {
+    if name.len() == 0 {
+        return;
+    }
     crate::show::text(b"configuration, ");
     named(name);
     crate::show::check(term::check_configuration(words));
@@ -31,21 +39,24 @@ fn scalar(tag: i64, datum: i64) -> Scalar {
 }
 
 // A function's code, and the nodes of three arguments.
-pub fn value(name: &[u8], a: &[i64; 8]) {
-    named(name);
-    let code = crate::build::number(a[0]);
-    crate::show::scalar(value::builtin::apply(
-        code,
+fn applied(a: &[i64; 8]) -> Scalar {
+    value::builtin::apply(
+        number(a[0]),
         scalar(a[1], a[2]),
         scalar(a[3], a[4]),
         scalar(a[5], a[6]),
-    ));
+    )
+}
+
+pub fn value(name: &[u8], a: &[i64; 8]) {
+    named(name);
+    crate::show::scalar(applied(a));
     crate::show::end();
 }
 
 // The part at a place: its length, and its first words.
-pub fn part(name: &[u8], configuration: &[i64], place: usize) {
-    let words = term::subterm(configuration, place);
+pub fn part(name: &[u8], configuration: &[i64], a: &[i64; 8]) {
+    let words = term::subterm(configuration, number(a[0]));
     named(name);
     crate::show::text(b"words ");
     crate::show::number(words.len());
@@ -61,11 +72,10 @@ fn step_into<'a>(name: &[u8], table: &'a [i64], configuration: &'a [i64], out: &
 }
 
 // A step by the earliest rule, with so many words of out.
-pub fn step<'a>(name: &[u8], table: &'a [i64], configuration: &'a [i64], out: usize) {
+pub fn step<'a>(name: &[u8], table: &'a [i64], configuration: &'a [i64], a: &[i64; 8]) {
+    let out = at_most(a[0], 90000);
     let mut words = [77i64; 90000];
-    if out <= 90000 {
-        step_into(name, table, configuration, &mut words[0..out]);
-    }
+    step_into(name, table, configuration, &mut words[0..out]);
 }
 
 fn rule_into<'a>(
@@ -83,12 +93,9 @@ fn rule_into<'a>(
 
 // A step by one given rule: its number, and the length of out.
 pub fn rule<'a>(name: &[u8], table: &'a [i64], configuration: &'a [i64], a: &[i64; 8]) {
-    let rule = crate::build::number(a[0]);
-    let out = crate::build::number(a[1]);
+    let out = at_most(a[1], 90000);
     let mut words = [77i64; 90000];
-    if out <= 90000 {
-        rule_into(name, table, configuration, rule, &mut words[0..out]);
-    }
+    rule_into(name, table, configuration, number(a[0]), &mut words[0..out]);
 }
 
 fn run_into<'a>(
@@ -109,25 +116,19 @@ fn run_into<'a>(
 
 // A run: budget, N, and the lengths of out and spare.
 pub fn run<'a>(name: &[u8], table: &'a [i64], configuration: &'a [i64], a: &[i64; 8]) {
-    let budget = crate::build::number(a[0]);
-    let limit = crate::build::number(a[1]);
-    let out = crate::build::number(a[2]);
-    let spare = crate::build::number(a[3]);
+    let out = at_most(a[2], 65540);
+    let spare = at_most(a[3], 65540);
     let mut words = [77i64; 65540];
     let mut more = [66i64; 65540];
-    if out <= 65540 {
-        if spare <= 65540 {
-            run_into(
-                name,
-                table,
-                configuration,
-                budget,
-                limit,
-                &mut words[0..out],
-                &mut more[0..spare],
-            );
-        }
-    }
+    run_into(
+        name,
+        table,
+        configuration,
+        number(a[0]),
+        number(a[1]),
+        &mut words[0..out],
+        &mut more[0..spare],
+    );
 }
 
 fn replay_into(
@@ -150,36 +151,20 @@ fn replay_into(
 
 // A replay: N, and the lengths of out, choices and work.
 pub fn replay(name: &[u8], table: &[i64], configuration: &[i64], log: &[u16], a: &[i64; 8]) {
-    let limit = crate::build::number(a[0]);
-    let out = crate::build::number(a[1]);
-    let choices = crate::build::number(a[2]);
-    let work = crate::build::number(a[3]);
+    let out = at_most(a[1], 65540);
+    let choices = at_most(a[2], 4200);
+    let work = at_most(a[3], 165000);
     let mut words = [77i64; 65540];
     let mut numbers = [99u16; 4200];
     let mut more = [55i64; 165000];
-    if out <= 65540 {
-        if choices <= 4200 {
-            if work <= 165000 {
-                replay_into(
-                    name,
-                    table,
-                    configuration,
-                    log,
-                    limit,
-                    &mut words[0..out],
-                    &mut numbers[0..choices],
-                    &mut more[0..work],
-                );
-            }
-        }
-    }
-}
-
-// The desk: a request's bytes to its answer's.
-pub fn desk(name: &[u8], request: &[u8]) {
-    let mut output = [0u8; cli::MAX_OUTPUT];
-    let n = cli::answer(request, &mut output);
-    crate::show::text(b"desk, ");
-    named(name);
-    crate::show::text(crate::text::before(&output, n));
+    replay_into(
+        name,
+        table,
+        configuration,
+        log,
+        number(a[0]),
+        &mut words[0..out],
+        &mut numbers[0..choices],
+        &mut more[0..work],
+    );
 }

@@ -1,4 +1,5 @@
-// The lines, one after the other. A line is a key, numbers, and behind a semicolon a name; what a table, a configuration and a log line say is kept.
+// The lines, one after the other. A line is a key, which its first letter tells, numbers, and behind a semicolon a name; what a table, a configuration and a
+// log line say is kept.
 use crate::text;
 
 // How many words, and actions, are kept.
@@ -8,32 +9,10 @@ struct Kept {
     log: usize,
 }
 
-enum Key {
-    Table,
-    Configuration,
-    Log,
-    Call,
-}
-
-fn key_of(word: &[u8]) -> Key {
-    if check::same(word, b"table") {
-        return Key::Table;
-    }
-    if check::same(word, b"configuration") {
-        return Key::Configuration;
-    }
-    if check::same(word, b"log") {
-        return Key::Log;
-    }
-    Key::Call
-}
-
 // A table; it is checked if it has a name.
 fn keep_table(name: &[u8], numbers: &[u8], kept: Kept, table: &mut [i64]) -> Kept {
     let n = crate::build::words(numbers, table);
-    if 0 < name.len() {
-        crate::call::table(name, crate::build::front(table, n));
-    }
+    crate::call::table(name, crate::build::front(table, n));
     Kept {
         table: n,
         configuration: kept.configuration,
@@ -44,9 +23,7 @@ fn keep_table(name: &[u8], numbers: &[u8], kept: Kept, table: &mut [i64]) -> Kep
 // A configuration; it is checked if it has a name.
 fn keep_configuration(name: &[u8], numbers: &[u8], kept: Kept, configuration: &mut [i64]) -> Kept {
     let n = crate::build::words(numbers, configuration);
-    if 0 < name.len() {
-        crate::call::configuration(name, crate::build::front(configuration, n));
-    }
+    crate::call::configuration(name, crate::build::front(configuration, n));
     Kept {
         table: kept.table,
         configuration: n,
@@ -64,55 +41,31 @@ fn keep_log(numbers: &[u8], kept: Kept, log: &mut [u16]) -> Kept {
     }
 }
 
-// A call on words: the numbers of its line are its other arguments.
+// A call: the numbers of its line are its other arguments. A line with another key, as a comment's, says nothing.
 fn call<'a>(
-    word: &[u8],
-    name: &[u8],
-    table: &'a [i64],
-    configuration: &'a [i64],
-    log: &[u16],
-    a: &[i64; 8],
-) {
-    if check::same(word, b"value") {
-        crate::call::value(name, a);
-    }
-    if check::same(word, b"part") {
-        crate::call::part(name, configuration, crate::build::number(a[0]));
-    }
-    if check::same(word, b"step") {
-        crate::call::step(name, table, configuration, crate::build::number(a[0]));
-    }
-    if check::same(word, b"rule") {
-        crate::call::rule(name, table, configuration, a);
-    }
-    if check::same(word, b"run") {
-        crate::call::run(name, table, configuration, a);
-    }
-    if check::same(word, b"replay") {
-        crate::call::replay(name, table, configuration, log, a);
-    }
-}
-
-// Any other line calls; one whose key is none of these, as a comment's, says nothing.
-fn called<'a>(
-    word: &[u8],
+    key: u8,
     name: &[u8],
     numbers: &[u8],
     table: &'a [i64],
     configuration: &'a [i64],
     log: &[u16],
 ) {
-    if check::same(word, b"desk") {
-        crate::call::desk(name, text::from(numbers, 1));
-        return;
-    }
     let mut a = [0i64; 8];
     crate::build::words(numbers, &mut a);
-    call(word, name, table, configuration, log, &a);
+    match key {
+        b'v' => crate::call::value(name, &a),
+        b'a' => crate::call::part(name, configuration, &a),
+        b's' => crate::call::step(name, table, configuration, &a),
+        b'b' => crate::call::rule(name, table, configuration, &a),
+        b'r' => crate::call::run(name, table, configuration, &a),
+        b'p' => crate::call::replay(name, table, configuration, log, &a),
+        _ => {}
+    }
 }
 
+// No key has a digit, a minus or an x, so that the numbers of a line may be read from its start.
 fn said(
-    word: &[u8],
+    key: u8,
     name: &[u8],
     numbers: &[u8],
     kept: Kept,
@@ -120,19 +73,17 @@ fn said(
     configuration: &mut [i64],
     log: &mut [u16],
 ) -> Kept {
-    match key_of(word) {
-        Key::Table => keep_table(name, numbers, kept, table),
-        Key::Configuration => keep_configuration(name, numbers, kept, configuration),
-        Key::Log => keep_log(numbers, kept, log),
-        Key::Call => {
-            let t = crate::build::front(table, kept.table);
-            let c = crate::build::front(configuration, kept.configuration);
-            called(
-                word,
+    match key {
+        b't' => keep_table(name, numbers, kept, table),
+        b'c' => keep_configuration(name, numbers, kept, configuration),
+        b'l' => keep_log(numbers, kept, log),
+        _ => {
+            call(
+                key,
                 name,
                 numbers,
-                t,
-                c,
+                crate::build::front(table, kept.table),
+                crate::build::front(configuration, kept.configuration),
                 crate::build::first(log, kept.log),
             );
             kept
@@ -140,7 +91,6 @@ fn said(
     }
 }
 
-// A line, with its groups written out: those in () first, then those in [].
 fn line(
     s: &[u8],
     kept: Kept,
@@ -148,21 +98,11 @@ fn line(
     configuration: &mut [i64],
     log: &mut [u16],
 ) -> Kept {
-    let blank = text::find(s, b' ');
     let end = text::find(s, b';');
-    let mut inner = [0u8; 140000];
-    let n = text::expand(
-        text::from(text::before(s, end), blank),
-        b'(',
-        b')',
-        &mut inner,
-    );
-    let mut outer = [0u8; 140000];
-    let m = text::expand(text::before(&inner, n), b'[', b']', &mut outer);
     said(
-        text::before(s, blank),
+        text::first(s),
         text::from(text::from(s, end), 2),
-        text::before(&outer, m),
+        text::before(s, end),
         kept,
         table,
         configuration,

@@ -40,15 +40,7 @@ pub fn end() {
 
 fn refusal(r: Refusal) {
     text(b"refused ");
-    match r {
-        Refusal::BadTable => text(b"1"),
-        Refusal::BadConfiguration => text(b"2"),
-        Refusal::TooLong => text(b"3"),
-        Refusal::BadLimit => text(b"4"),
-        Refusal::ShortBuffer => text(b"5"),
-        Refusal::OverLimit => text(b"6"),
-        Refusal::Unreadable => text(b"7"),
-    }
+    io::print_decimal(1, minuska::number(r));
 }
 
 pub fn check(c: Check) {
@@ -176,14 +168,9 @@ fn widen(from: &[u16], to: &mut [i64]) -> usize {
     next
 }
 
-// A slice of choices, whole; `room` has as many words or more.
-fn widened(name: &[u8], numbers: &[u16], room: &mut [i64]) {
-    let n = widen(numbers, room);
-    slice(name, crate::build::front(room, n));
-}
-
-// None here has more than 4,200.
+// A slice of choices, whole; none here has more than 4,200.
 pub fn choices(name: &[u8], numbers: &[u16]) {
     let mut room = [0i64; 4200];
-    widened(name, numbers, &mut room);
+    let n = widen(numbers, &mut room);
+    slice(name, crate::build::front(&room, n));
 }
