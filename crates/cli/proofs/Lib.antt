@@ -2,7 +2,6 @@
 pub mod CallerLaw
 pub mod LinesLaw
 pub mod RequestLaw
-pub mod WrittenLaw
 pub mod ContractLaw
 pub mod CaseLaw
 -- The turns and returns of the routines, over plain variables.

@@ -4,14 +4,13 @@ use crate::lines::four_lines;
 use crate::print::put_not_reproduced;
 use crate::print::put_refusal;
 use crate::print::put_reproduced;
-use crate::print::written_words;
 use decimal::line::Count;
 use decimal::line::Limit;
 use decimal::line::read_limit;
 use decimal::line::read_log;
 use decimal::line::read_words;
 use minuska::Refusal;
-use minuska::ReplayAnswer;
+use replay::CountedAnswer;
 ghost use Prim.Native.Nat.{_≤_};
 ghost use lib.ListN.{length};
 ghost use Rattle.minuska.specs.Computed.Outcome.{replayOutcome};
@@ -26,7 +25,7 @@ mod print;
 // An output slice of this many bytes holds every answer.
 pub const MAX_OUTPUT: usize = 28672;
 
-// The answer to a request. No tag is below 0, so what the replay wrote to `out` ends at the first one that is.
+// The answer to a request.
 fn answer_request(
     table: &[i64],
     configuration: &[i64],
@@ -37,10 +36,10 @@ fn answer_request(
     requires { ⌜ maxOutput ≤ length (now output) ⌝ }
     ensures { λ r. ⌜ Wrote (now (output .entry)) 0 (answerText (replayOutcome (now (table .entry)) (now (configuration .entry)) (now (log .entry)) limit 1024 256 4096)) (now (output .exit)) r ⌝ }
 {
-    let mut out = [-1i64; 1024];
+    let mut out = [0i64; 1024];
     let mut choices = [0u16; 256];
     let mut work = [0i64; 4096];
-    let answer = replay::replay(
+    let answer = replay::replay_counted(
         table,
         configuration,
         log,
@@ -50,12 +49,12 @@ fn answer_request(
         &mut work,
     );
     match answer {
-        ReplayAnswer::Reproduced => {
-            let end = written_words(&out);
+        CountedAnswer::Reproduced(nodes) => {
+            let end = 2 * nodes;
             put_reproduced(output, &choices[..log.len()], &out[..end])
         }
-        ReplayAnswer::NotReproduced => put_not_reproduced(output),
-        ReplayAnswer::Refused(why) => put_refusal(output, why),
+        CountedAnswer::NotReproduced => put_not_reproduced(output),
+        CountedAnswer::Refused(why) => put_refusal(output, why),
     }
 }
 

@@ -1,31 +1,14 @@
 // The answer's text put into the output. Each routine is lent room enough.
-use decimal::print::element;
 use decimal::print::put_byte;
 use decimal::print::put_decimal;
 use decimal::print::put_more_numbers;
 use decimal::print::put_text;
 use decimal::print::put_words;
 use minuska::Refusal;
-ghost use mathlib.Core.Path.{_≡_};
 ghost use Prim.Native.Nat.{_+_, _*_, _≤_};
 ghost use lib.ListN.{length};
 ghost use Rattle.decimal.specs.Computed.Put.{Wrote};
 ghost use Rattle.cli.specs.Output.{reproducedText, refusedText, notReproducedText};
-ghost use Rattle.cli.specs.Computed.Written.{written};
-
-// How many words stand before the first tag that is below 0.
-pub fn written_words(words: &[i64]) -> usize
-    ensures { λ r. ⌜ r ≡ written (now (words .entry)) ⌝ }
-{
-    let mut at = 0;
-    while 1 < words.len() - at {
-        if element(words, at) < 0 {
-            return at;
-        }
-        at += 2;
-    }
-    at
-}
 
 // `refused,` and the number.
 pub fn put_refusal(output: &mut [u8], refusal: Refusal) -> usize

@@ -87,7 +87,7 @@ fn put_word(output: &mut [u8], at: usize, word: i64) -> usize
     put_decimal(output, at, magnitude(word))
 }
 
-pub fn element(words: &[i64], i: usize) -> i64
+fn element(words: &[i64], i: usize) -> i64
     requires { ⌜ i < length (now words) ⌝ }
     ensures { λ r. ⌜ r ≡ getD (now (words .entry)) i (pos 0) ⌝ }
 {

@@ -5,6 +5,7 @@ use minuska::RunAnswer;
 use minuska::StepAnswer;
 ghost use mathlib.Core.Path.{_≡_};
 ghost use Prim.Native.Nat.{_+_, _*_, _≤_, _<_, _^_};
+ghost use Rattle.minuska.specs.Rule.{maxNodes, maxSteps};
 ghost use Rattle.hethalip.specs.Pack.{packCheck, packStep, packRun, packReplay};
 ghost use Rattle.hethalip.specs.Range.{StepInRange, RunInRange};
 
@@ -20,7 +21,7 @@ pub fn check(answer: Check) -> u64
 
 // A step's three values above its kind.
 fn stepped(rule: usize, action: u16, nodes: usize) -> u64
-    requires { ⌜ (rule < 256) × (nodes ≤ 32768) ⌝ }
+    requires { ⌜ (rule < 256) × (nodes ≤ maxNodes) ⌝ }
     ensures { λ r. ⌜ r ≡ 17 + rule * 2 ^ 8 + action * 2 ^ 16 + nodes * 2 ^ 32 ⌝ }
 {
     17 + rule as u64 * 256 + action as u64 * 65536 + nodes as u64 * 4294967296
@@ -44,7 +45,7 @@ pub fn step(answer: StepAnswer) -> u64
 
 // A count of steps above its kind.
 fn counted(kind: u64, k: usize) -> u64
-    requires { ⌜ (kind < 256) × (k ≤ 1000000) ⌝ }
+    requires { ⌜ (kind < 256) × (k ≤ maxSteps) ⌝ }
     ensures { λ r. ⌜ r ≡ kind + k * 2 ^ 8 ⌝ }
 {
     kind + k as u64 * 256

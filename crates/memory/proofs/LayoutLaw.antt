@@ -10,7 +10,7 @@ use lib.Seq.{paste, length-paste, getD-set-other, getD-set-same, length-take-le,
 use Rattle.words.specs.Number.{natOf}
 use Rattle.words.proofs.PartLaw.{part-take, drop-later, part-same, word-below}
 use Rattle.words.proofs.CopyLaw.{paste-behind}
-use Rattle.memory.specs.Layout.{base, lengthOf, positionOf, wordsOf, Spare, advanced, entered, Enters}
+use Rattle.memory.specs.Layout.{base, lengthOf, positionOf, wordsOf, OwnFits, advanced, entered, Enters}
 
 -- a frame ends before a later one begins
 pub frame-before : (room i j : ℕ) → i < j → base room i + (room + 2) ≤ base room j
@@ -31,7 +31,7 @@ module _ (room : ℕ) (w : List ℤ) (at : ℕ) (e : getD w (at + room) (pos 0) 
   unfolding lengthOf
   empty-length = ap natOf e
 
-  pub empty-spare : Spare room w at
+  pub empty-spare : OwnFits room w at
   empty-spare = omega (arith, empty-length)
 
 -- ---- a frame in which nothing was written but the next position
@@ -44,7 +44,7 @@ module _ (room : ℕ) (w w′ : List ℤ) (at : ℕ) (long : length w′ ≡ len
   unfolding wordsOf
   still-words k = ap (λ (m : ℕ). take m (drop at w′)) still-length ∙ part-same at (lengthOf room w at) w w′ long (λ j h l. same j h (omega arith))
 
-  pub still-spare : Spare room w at → Spare room w′ at
+  pub still-spare : OwnFits room w at → OwnFits room w′ at
   still-spare s = subst⁻¹ (λ (k : ℕ). k ≤ room) still-length s
 
 -- ---- what stands below what was written

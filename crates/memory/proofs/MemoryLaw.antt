@@ -10,7 +10,7 @@ use lib.ListN.{length, getD, take, drop}
 use Rattle.words.specs.Number.{natOf}
 use Rattle.words.proofs.PartLaw.{part-same}
 use Rattle.memory.specs.Layout.{entered}
-use Rattle.memory.specs.Memory.{widthOf, slotsOf, headOf, slotAt, Filed, Entry, Slot, Stands}
+use Rattle.memory.specs.Memory.{widthOf, slotsOf, headOf, slotAt, Filed, Entry, Slot, InSlot}
 use Rattle.memory.proofs.LayoutLaw.{still-length, entered-length, entered-other}
 
 -- ---- numbers
@@ -94,10 +94,10 @@ module _ (room : ℕ) (w : List ℤ) (at : ℕ) (cs : List ℤ) (fits : at + (ro
   entry-wide = width-kept room w (entered room w at cs) at (length cs) long (entered-other room w at cs fits small) c less (e .filed)
 
 -- ---- a configuration that is found
-pub found-entry : (room : ℕ) (w : List ℤ) (at : ℕ) (c : List ℤ) (p : ℕ) → 0 < length c → Slot room w at (length c) p → Stands w (at + p) c → Entry room w at c
+pub found-entry : (room : ℕ) (w : List ℤ) (at : ℕ) (c : List ℤ) (p : ℕ) → 0 < length c → Slot room w at (length c) p → InSlot w (at + p) c → Entry room w at c
 found-entry room w at c p h s k =
     let e : at + p ≡ slotAt room w at (s .slot) = ap (λ (q : ℕ). at + q) (s .place) in
-    let k′ : Stands w (slotAt room w at (s .slot)) c = subst (λ (q : ℕ). Stands w q c) e k in
+    let k′ : InSlot w (slotAt room w at (s .slot)) c = subst (λ (q : ℕ). InSlot w q c) e k in
     record { some = s .some; own = s .own; filed = filed room w at c (widthOf room w at) (slotsOf room w at) (s .slot) (length c) refl refl (k′ .0) (s .wide) (s .fits) (s .first) (s .last) h (s .narrow) (k′ .1) }
 
 pub slot-there : (room : ℕ) (w : List ℤ) (at words p : ℕ) → (p ≡ 0 → ⊥) → (p ≡ 0) ⊎ Slot room w at words p → Slot room w at words p

@@ -11,7 +11,7 @@ use lib.Seq.{paste, length-paste, getD-set-same, getD-set-other, length-take-le,
 use Rattle.words.specs.Number.{natOf}
 use Rattle.words.proofs.PartLaw.{front-same, part-same, word-below, word-behind, drop-later}
 use Rattle.words.proofs.CopyLaw.{paste-below, paste-behind, paste-there}
-use Rattle.memory.specs.Layout.{lengthOf, wordsOf, Spare, entered, Enters}
+use Rattle.memory.specs.Layout.{lengthOf, wordsOf, OwnFits, entered, Enters}
 use Rattle.memory.specs.Memory.{widthOf, slotsOf, headOf, Filed, Known, Keeps, Inside, Slot, Heads, Opens, Readies, Puts, Keeping}
 use Rattle.memory.proofs.LayoutLaw.{enters}
 use Rattle.memory.proofs.MemoryLaw.{filed, slot-before, slot-ends, slot-room, slot-above, entry-filed, entry-wide}
@@ -223,7 +223,7 @@ module _ (room : ℕ) (w : List ℤ) (at : ℕ) (fits : at + (room + 2) ≤ leng
           let e = a-empty (f .slot) (f .first) (subst (λ (x : ℕ). f .slot ≤ x) a-slots (f .last)) in
           omega arith
 
-pub inside-spare : (room : ℕ) (w w′ : List ℤ) (at : ℕ) → Inside room w w′ at → Spare room w at → Spare room w′ at
+pub inside-spare : (room : ℕ) (w w′ : List ℤ) (at : ℕ) → Inside room w w′ at → OwnFits room w at → OwnFits room w′ at
 unfolding lengthOf
 inside-spare room w w′ at i s =
     let e : getD w′ (at + room) (pos 0) ≡ getD w (at + room) (pos 0) = word-behind w w′ (at + room) (i .behind) (at + room) (omega arith) in

@@ -8,6 +8,10 @@ use lib.ListN.{length, getD, take, drop, set}
 use lib.Seq.{paste}
 use Rattle.words.specs.Number.{natOf}
 
+-- the room of document 01's largest limit, 32,768 nodes
+abbrev pub maxRoom : ℕ
+maxRoom = 65536
+
 -- where the frame at a depth begins
 abbrev pub base : ℕ → ℕ → ℕ
 base room depth = depth * (room + 2)
@@ -23,8 +27,8 @@ unfoldable pub wordsOf : ℕ → List ℤ → ℕ → List ℤ
 wordsOf room work at = take (lengthOf room work at) (drop at work)
 
 -- a frame whose configuration may be looked at: it lies in the frame
-abbrev pub Spare : ℕ → List ℤ → ℕ → Type 0
-Spare room work at = lengthOf room work at ≤ room
+abbrev pub OwnFits : ℕ → List ℤ → ℕ → Type 0
+OwnFits room work at = lengthOf room work at ≤ room
 
 -- the frame with another next position; a frame anew, with a configuration and position 0
 unfoldable pub advanced : ℕ → List ℤ → ℕ → ℕ → List ℤ

@@ -68,8 +68,8 @@ pub record Slot (room : ℕ) (work : List ℤ) (at words p : ℕ) : Type 0 where
   pub narrow : words < widthOf room work at
 
 -- a configuration stands in the slot at a place
-abbrev pub Stands : List ℤ → ℕ → List ℤ → Type 0
-Stands work from c = (headOf work from ≡ length c) × (take (length c) (drop (from + 1) work) ≡ c)
+abbrev pub InSlot : List ℤ → ℕ → List ℤ → Type 0
+InSlot work from c = (headOf work from ≡ length c) × (take (length c) (drop (from + 1) work) ≡ c)
 
 -- the heads of `count` slots of a width are 0
 pub record Heads (work work′ : List ℤ) (at width count : ℕ) : Type 0 where

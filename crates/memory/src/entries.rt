@@ -6,8 +6,8 @@ ghost use mathlib.Core.Bool.{true};
 ghost use mathlib.Core.Logic.{_⊎_};
 ghost use Prim.Native.Nat.{_+_, _*_, _^_, _≤_, _<_};
 ghost use lib.ListN.{length};
-ghost use Rattle.memory.specs.Layout.{lengthOf, Spare};
-ghost use Rattle.memory.specs.Memory.{Entry, Slot, Stands, Heads, Opens, Readies, Puts, Keeping};
+ghost use Rattle.memory.specs.Layout.{maxRoom, lengthOf, OwnFits};
+ghost use Rattle.memory.specs.Memory.{Entry, Slot, InSlot, Heads, Opens, Readies, Puts, Keeping};
 
 // A number by some of the words, at most 32: every word of a short configuration. The step is odd, so that labels and data are met.
 fn mixed(words: &[i64]) -> usize
@@ -25,7 +25,7 @@ fn mixed(words: &[i64]) -> usize
 
 // The place of the slot for a mix, where the table takes the frame's own configuration and one of `words` words; 0 where there is no such table.
 fn slot_at(work: &[i64], at: usize, room: usize, mix: usize, words: usize) -> usize
-    requires { ⌜ (at + (room + 2) ≤ length (now work)) × (room ≤ 65536) × (mix < 2 ^ 32) ⌝ }
+    requires { ⌜ (at + (room + 2) ≤ length (now work)) × (room ≤ maxRoom) × (mix < 2 ^ 32) ⌝ }
     ensures { λ r. ⌜ (r ≡ 0) ⊎ Slot room (now (work .entry)) at words r ⌝ }
 {
     if room < 16 {
@@ -61,7 +61,7 @@ fn slot_at(work: &[i64], at: usize, room: usize, mix: usize, words: usize) -> us
 // Whether a configuration stands in the slot at `from`: lengths first.
 fn stands(work: &[i64], from: usize, configuration: &[i64]) -> bool
     requires { ⌜ from + 1 + length (now configuration) ≤ length (now work) ⌝ }
-    ensures { λ r. ⌜ (r ≡ true → Stands (now (work .entry)) from (now (configuration .entry))) ⌝ }
+    ensures { λ r. ⌜ (r ≡ true → InSlot (now (work .entry)) from (now (configuration .entry))) ⌝ }
 {
     let count = words::number_at(work, from);
     if count != configuration.len() {
@@ -74,7 +74,7 @@ fn stands(work: &[i64], from: usize, configuration: &[i64]) -> bool
 
 // Whether the table has a configuration.
 pub fn has(work: &[i64], at: usize, room: usize, configuration: &[i64]) -> bool
-    requires { ⌜ (at + (room + 2) ≤ length (now work)) × (room ≤ 65536) × (0 < length (now configuration)) ⌝ }
+    requires { ⌜ (at + (room + 2) ≤ length (now work)) × (room ≤ maxRoom) × (0 < length (now configuration)) ⌝ }
     ensures { λ r. ⌜ (r ≡ true → Entry room (now (work .entry)) at (now (configuration .entry))) ⌝ }
 {
     let mix = mixed(configuration);
@@ -117,7 +117,7 @@ fn larger(a: usize, b: usize) -> usize
 
 // The table set up, for configurations of up to `most` words and somewhat more. No table where there is no room for a slot.
 fn lay_out(work: &mut [i64], at: usize, room: usize, most: usize)
-    requires { ⌜ (at + (room + 2) ≤ length (now work)) × (room ≤ 65536) × (16 ≤ room) × (most ≤ room) × (lengthOf room (now work) at ≤ most) ⌝ }
+    requires { ⌜ (at + (room + 2) ≤ length (now work)) × (room ≤ maxRoom) × (16 ≤ room) × (most ≤ room) × (lengthOf room (now work) at ≤ most) ⌝ }
     ensures { λ _. ⌜ Opens room (now (work .entry)) (now (work .exit)) at ⌝ }
 {
     let width = most + most / 4 + 2;
@@ -134,7 +134,7 @@ fn lay_out(work: &mut [i64], at: usize, room: usize, most: usize)
 
 // A table that takes the frame's own configuration and one of `words` words, where there is room for one; what it had stays or goes whole.
 fn ready(work: &mut [i64], at: usize, room: usize, words: usize)
-    requires { ⌜ (at + (room + 2) ≤ length (now work)) × (room ≤ 65536) × (16 ≤ room) × (words ≤ room) × Spare room (now work) at ⌝ }
+    requires { ⌜ (at + (room + 2) ≤ length (now work)) × (room ≤ maxRoom) × (16 ≤ room) × (words ≤ room) × OwnFits room (now work) at ⌝ }
     ensures { λ _. ⌜ Readies room (now (work .entry)) (now (work .exit)) at words ⌝ }
 {
     let own = words::number_at(work, at + room);
@@ -151,7 +151,7 @@ fn ready(work: &mut [i64], at: usize, room: usize, words: usize)
 
 // The frame's own configuration is put into its slot.
 fn put_own(work: &mut [i64], at: usize, room: usize, words: usize)
-    requires { ⌜ (at + (room + 2) ≤ length (now work)) × (room ≤ 65536) × Spare room (now work) at ⌝ }
+    requires { ⌜ (at + (room + 2) ≤ length (now work)) × (room ≤ maxRoom) × OwnFits room (now work) at ⌝ }
     ensures { λ _. ⌜ Puts room (now (work .entry)) (now (work .exit)) at ⌝ }
 {
     let mix = mixed(frame::configuration(work, at, room));
@@ -166,7 +166,7 @@ fn put_own(work: &mut [i64], at: usize, room: usize, words: usize)
 
 // Before a configuration of `words` words is entered in the frame: its own is kept, where a table is wanted and has room for both. Else there is no table.
 pub fn keep(work: &mut [i64], at: usize, room: usize, wanted: bool, words: usize)
-    requires { ⌜ (at + (room + 2) ≤ length (now work)) × (room ≤ 65536) × (words ≤ room) × Spare room (now work) at ⌝ }
+    requires { ⌜ (at + (room + 2) ≤ length (now work)) × (room ≤ maxRoom) × (words ≤ room) × OwnFits room (now work) at ⌝ }
     ensures { λ _. ⌜ Keeping room (now (work .entry)) (now (work .exit)) at words ⌝ }
 {
     if room < 16 {

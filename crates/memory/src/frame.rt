@@ -3,11 +3,11 @@
 ghost use mathlib.Core.Path.{_≡_};
 ghost use Prim.Native.Nat.{_+_, _^_, _≤_, _<_};
 ghost use lib.ListN.{length};
-ghost use Rattle.memory.specs.Layout.{base, lengthOf, positionOf, wordsOf, Spare, advanced, entered};
+ghost use Rattle.memory.specs.Layout.{maxRoom, base, lengthOf, positionOf, wordsOf, OwnFits, advanced, entered};
 
 // Where the frame at a depth begins.
 pub fn base_at(room: usize, depth: usize) -> usize
-    requires { ⌜ (room ≤ 65536) × (base room depth < 2 ^ 64) ⌝ }
+    requires { ⌜ (room ≤ maxRoom) × (base room depth < 2 ^ 64) ⌝ }
     ensures { λ r. ⌜ r ≡ base room depth ⌝ }
 {
     depth * (room + 2)
@@ -29,7 +29,7 @@ pub fn length_at(work: &[i64], at: usize, room: usize) -> usize
 }
 
 pub fn configuration(work: &[i64], at: usize, room: usize) -> &[i64]
-    requires { ⌜ (at + (room + 2) ≤ length (now work)) × Spare room (now work) at ⌝ }
+    requires { ⌜ (at + (room + 2) ≤ length (now work)) × OwnFits room (now work) at ⌝ }
     ensures { λ r. ⌜ now r ≡ wordsOf room (now (work .entry)) at ⌝ }
 {
     let end = at + length_at(work, at, room);
@@ -45,7 +45,7 @@ pub fn set_position(work: &mut [i64], at: usize, room: usize, position: usize)
 
 // A frame anew, at position 0.
 pub fn enter(work: &mut [i64], at: usize, room: usize, configuration: &[i64])
-    requires { ⌜ (at + (room + 2) ≤ length (now work)) × (length (now configuration) ≤ room) × (room ≤ 65536) ⌝ }
+    requires { ⌜ (at + (room + 2) ≤ length (now work)) × (length (now configuration) ≤ room) × (room ≤ maxRoom) ⌝ }
     ensures { λ _. ⌜ now (work .exit) ≡ entered room (now (work .entry)) at (now (configuration .entry)) ⌝ }
 {
     words::copy(work, at, configuration);

@@ -7,7 +7,7 @@ ghost use mathlib.Core.Path.{_≡_};
 ghost use mathlib.Core.Bool.{true};
 ghost use Prim.Native.Nat.{_+_, _≤_, _<_};
 ghost use lib.ListN.{length};
-ghost use Rattle.memory.specs.Layout.{base, Spare, Enters, Forgets};
+ghost use Rattle.memory.specs.Layout.{maxRoom, base, OwnFits, Enters, Forgets};
 ghost use Rattle.memory.specs.Memory.{Keeps, Known};
 
 // Whether a frame's table is worth its time, where so many actions are left. Nothing is promised: any answer serves.
@@ -28,7 +28,7 @@ pub fn known(
     tabled: bool,
     configuration: &[i64],
 ) -> bool
-    requires { ⌜ (at + (room + 2) ≤ length (now work)) × (room ≤ 65536) × Spare room (now work) at × (0 < length (now configuration)) ⌝ }
+    requires { ⌜ (at + (room + 2) ≤ length (now work)) × (room ≤ maxRoom) × OwnFits room (now work) at × (0 < length (now configuration)) ⌝ }
     ensures { λ r. ⌜ (r ≡ true → (remember ≡ true) × Known room (now (work .entry)) at (now (configuration .entry))) ⌝ }
 {
     if !remember {
@@ -48,7 +48,7 @@ pub fn known(
 
 // A frame anew; what stood in it is kept in its table, where that is wanted.
 pub fn enter(work: &mut [i64], at: usize, room: usize, tabled: bool, configuration: &[i64])
-    requires { ⌜ (at + (room + 2) ≤ length (now work)) × (length (now configuration) ≤ room) × (room ≤ 65536) × Spare room (now work) at ⌝ }
+    requires { ⌜ (at + (room + 2) ≤ length (now work)) × (length (now configuration) ≤ room) × (room ≤ maxRoom) × OwnFits room (now work) at ⌝ }
     ensures { λ _. ⌜ Enters room (now (work .entry)) (now (work .exit)) at (now (configuration .entry)) ⌝ }
     ensures { λ _. ⌜ Keeps room (now (work .entry)) (now (work .exit)) at ⌝ }
 {
@@ -58,7 +58,7 @@ pub fn enter(work: &mut [i64], at: usize, room: usize, tabled: bool, configurati
 
 // No frame before the one at depth `actions` holds a configuration.
 pub fn forget(work: &mut [i64], room: usize, actions: usize)
-    requires { ⌜ (base room actions ≤ length (now work)) × (room ≤ 65536) ⌝ }
+    requires { ⌜ (base room actions ≤ length (now work)) × (room ≤ maxRoom) ⌝ }
     ensures { λ _. ⌜ Forgets room actions (now (work .entry)) (now (work .exit)) ⌝ }
 {
     let mut i = 0;

@@ -34,8 +34,8 @@ use Rattle.replay.specs.declared.CountedAnswer.{CountedAnswer}
 use Rattle.replay.specs.declared.CountedAnswer.the-variants as A
 use Rattle.replay.specs.Reading.{tableOf, termOf}
 use Rattle.replay.specs.Counted.{countedAnswer, uncounted, CountedContract}
-use Rattle.replay.specs.Turns.{Room}
-use Rattle.replay.specs.Endings.{AnswerContract}
+use Rattle.replay.specs.Turns.{SearchRoom}
+use Rattle.replay.specs.Endings.{AcceptedContract}
 use Rattle.replay.proofs.ReadingLaw.{is-table, is-term}
 
 -- the public answer of an outcome
@@ -98,7 +98,7 @@ module _ (ws cs : List ℤ) (log : List ℕ) (limit : ℕ) (out : List ℤ) (cho
       frames : base (2 * limit) (length log) + (2 * limit + 2) ≡ workWords limit log
       frames = sym (suc-mul (length log) (2 * limit + 2)) ∙ ap (λ (k : ℕ). k * (2 * limit + 2)) (sym (add-one (length log)))
 
-      pub room-fits : (rules : ℕ) → RuleCountIs ws rules → Room ws index rules (2 * limit) log out work
+      pub room-fits : (rules : ℕ) → RuleCountIs ws rules → SearchRoom ws index rules (2 * limit) log out work
       room-fits rules k =
           let e = k .is (tableOf ws) table in
           record { indexed = a .indexed h; rules-are = e ∙ sym (order-length (tableOf ws)); few = let b = few-rules (tableOf ws) (table .accepted) in omega arith; narrow = omega (arith, f .bounded); out-fits = roomy .0; work-fits = omega (arith, frames, roomy .2) }
@@ -114,7 +114,7 @@ module _ (ws cs : List ℤ) (log : List ℕ) (limit : ℕ) (out : List ℤ) (cho
           ap (λ (n : ℕ). gives (replay (tableOf ws) n log (termOf cs))) within
           ∙ sym (replay-outcome-is ws cs log limit (length out) (length choices) (length work) ∙ sizes-pass ws cs (tableOf ws) (termOf cs) table config (λ u v. replay u limit log v) (length log) maxActions limit short f)
 
-      pub called : (out′ : List ℤ) (choices′ : List ℕ) (work′ : List ℤ) (x : CountedAnswer) → AnswerContract ws cs log (2 * limit) out choices work out′ choices′ work′ x → CountedContract ws cs log limit out choices work out′ choices′ work′ x
+      pub called : (out′ : List ℤ) (choices′ : List ℕ) (work′ : List ℤ) (x : CountedAnswer) → AcceptedContract ws cs log (2 * limit) out choices work out′ choices′ work′ x → CountedContract ws cs log limit out choices work out′ choices′ work′ x
       called out′ choices′ work′ x k =
           counted out′ choices′ work′ x (k .answer ∙ ap countedAnswer answers)
           (k .leaves ∙ ap (λ (o : Outcome (ReplayResult Term)). replayOut o out) answers)

@@ -29,8 +29,8 @@ use Rattle.words.proofs.CopyLaw.{paste-start, same-zeros}
 use Rattle.memory.specs.Layout.{base, entered, Enters}
 use Rattle.replay.specs.Counted.{countedAnswer}
 use Rattle.replay.specs.Stack.{chosen}
-use Rattle.replay.specs.Turns.{termAt, positionAt, Framed, Sound, Held, MemoryOf, stateOf, Room, SearchSays, SearchContract}
-use Rattle.replay.specs.Endings.{SetsUp, restored, FoundWithin, concludedAs, foundWords, choicesAfter, EndContract, AnswerContract}
+use Rattle.replay.specs.Turns.{termAt, positionAt, Framed, SoundFrames, Held, MemoryOf, stateOf, SearchRoom, SearchSays, SearchContract}
+use Rattle.replay.specs.Endings.{SetsUp, restored, FoundWithin, concludedAs, foundWords, choicesAfter, EndContract, AcceptedContract}
 use Rattle.replay.proofs.ReadingLaw.{is-term}
 use Rattle.replay.proofs.StackLaw as Stack
 use Rattle.replay.proofs.StackLaw.{chosen-long}
@@ -55,7 +55,7 @@ replay-empty : (t : Table) (limit : ℕ) (log : List ℕ) (g : Term) → length 
 replay-empty t limit log g h = ap (λ (l : List ℕ). replay t limit l g) (empty log h) ∙ replay-is t limit [] g
 
 pub answer-empty : (ws cs : List ℤ) (log : List ℕ) (room : ℕ) (out : List ℤ) (choices : List ℕ) (work out′ work′ : List ℤ) → Accepted cs → length log ≡ 0
-    → out′ ≡ paste out 0 cs (length cs) → work′ ≡ writeZeros (base room (length log) + (room + 2)) work → AnswerContract ws cs log room out choices work out′ choices work′ (Reproduced (length cs / 2))
+    → out′ ≡ paste out 0 cs (length cs) → work′ ≡ writeZeros (base room (length log) + (room + 2)) work → AcceptedContract ws cs log room out choices work out′ choices work′ (Reproduced (length cs / 2))
 unfolding countedAnswer
 answer-empty ws cs log room out choices work out′ work′ acc h ho hw =
     let e = replay-empty (tableOf ws) (outLimit room) log (termOf cs) h in
@@ -76,7 +76,7 @@ back room k at out out′ work′ r h q e f =
     ∙ ap (λ (a : List ℤ). take k out′ ++ a) (sym (drop-append-le k (take room out) (drop room out) (omega arith)) ∙ ap (drop k) (take-append-drop room out))
 
 -- ---- the initial configuration is entered
-module _ (ws : List ℤ) (index : List ℕ) (rules room : ℕ) (cs : List ℤ) (log : List ℕ) (out work : List ℤ) (rm : Room ws index rules room log out work) (small : length cs ≤ room) (some : 0 < length log) (acc : Accepted cs) where
+module _ (ws : List ℤ) (index : List ℕ) (rules room : ℕ) (cs : List ℤ) (log : List ℕ) (out work : List ℤ) (rm : SearchRoom ws index rules room log out work) (small : length cs ≤ room) (some : 0 < length log) (acc : Accepted cs) where
   abbrev t : Table
   t = tableOf ws
 
@@ -110,10 +110,10 @@ module _ (ws : List ℤ) (index : List ℕ) (rules room : ℕ) (cs : List ℤ) (
     opened-long : length opened ≡ length work
     opened-long = ent .wide ∙ long₁
 
-    pub opened-room : Room ws index rules room log out opened
+    pub opened-room : SearchRoom ws index rules room log out opened
     opened-room = record { indexed = rm .indexed; rules-are = rm .rules-are; few = rm .few; narrow = rm .narrow; out-fits = rm .out-fits; work-fits = omega (arith, rm .work-fits, opened-long) }
 
-    pub opened-sound : Sound rules room (length log) opened 0
+    pub opened-sound : SoundFrames rules room (length log) opened 0
     opened-sound =
         in-sound rules room (length log) work₁ opened 0 cs small ent none-below acc (λ i h. absurd (let f : ⊥ = omega arith in f))
         (λ i h n. empty-spare room work₁ (base room i) (up .forgets .empty i h))
@@ -192,7 +192,7 @@ module _ (ws : List ℤ) (index : List ℕ) (rules room : ℕ) (cs : List ℤ) (
         ends Over s = subst⁻¹ (Concludes Over) s (record { answer = refl; leaves = restored-is 0 (omega arith) ∙ sym (replay-out-exceeded out); leaves-choices = sym (replay-choices-exceeded choices) })
         ends Nothing s = subst⁻¹ (Concludes Nothing) s (record { answer = refl; leaves = restored-is 0 (omega arith) ∙ sym (replay-out-not out); leaves-choices = sym (replay-choices-not choices) })
 
-        pub answered : (out″ : List ℤ) (choices″ : List ℕ) (work″ : List ℤ) (r : CountedAnswer) → EndContract ws f (length log) room out′ choices work′ out″ choices″ work″ r → AnswerContract ws cs log room out choices work out″ choices″ work″ r
+        pub answered : (out″ : List ℤ) (choices″ : List ℕ) (work″ : List ℤ) (r : CountedAnswer) → EndContract ws f (length log) room out′ choices work′ out″ choices″ work″ r → AcceptedContract ws cs log room out choices work out″ choices″ work″ r
         answered out″ choices″ work″ r e =
             let z : Concludes f (replay t (outLimit room) log (termOf cs)) = subst (Concludes f) opened-state (ends f (found .says)) in
             record { answer = e .answer ∙ z .answer; leaves = e .leaves ∙ z .leaves; leaves-choices = e .leaves-choices ∙ z .leaves-choices; leaves-work = e .leaves-work ∙ work-same }

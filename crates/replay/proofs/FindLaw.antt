@@ -10,23 +10,23 @@ use Rattle.replay.specs.declared.search.Turned.the-variants.{On, Beyond,
 use Rattle.replay.specs.declared.search.Found.the-variants.{Path, Over, Nothing}
 use Rattle.replay.specs.Reading.{tableOf}
 use Rattle.replay.specs.Stack.{mark}
-use Rattle.replay.specs.Turns.{Sound, stateOf, MemoryOf, Room, Kept, TurnContract, SearchContract}
+use Rattle.replay.specs.Turns.{SoundFrames, stateOf, MemoryOf, SearchRoom, Kept, TurnContract, SearchContract}
 
 -- after some turns from (out₀, work₀): the search at depth d will say what it would have said at first
 pub record Searching (ws : List ℤ) (index : List ℕ) (rules room : ℕ) (log : List ℕ) (out₀ work₀ out work : List ℤ) (over : Bool) (d : ℕ) : Type 0 where
-  pub fits : Room ws index rules room log out work
+  pub fits : SearchRoom ws index rules room log out work
   pub deep : d < length log
-  pub sound : Sound rules room (length log) work d
+  pub sound : SoundFrames rules room (length log) work d
   pub memory : MemoryOf (tableOf ws) room log work over d
   pub same : stateOf (tableOf ws) room log work₀ false 0 ≡ stateOf (tableOf ws) room log work over d
   pub kept : Kept room (length log) out₀ work₀ out work
 
 module _ (ws : List ℤ) (index : List ℕ) (rules room : ℕ) (log : List ℕ) (out₀ work₀ : List ℤ) where
-  pub find-start : Room ws index rules room log out₀ work₀ → 0 < length log → Sound rules room (length log) work₀ 0 → MemoryOf (tableOf ws) room log work₀ false 0 → Searching ws index rules room log out₀ work₀ out₀ work₀ false 0
+  pub find-start : SearchRoom ws index rules room log out₀ work₀ → 0 < length log → SoundFrames rules room (length log) work₀ 0 → MemoryOf (tableOf ws) room log work₀ false 0 → Searching ws index rules room log out₀ work₀ out₀ work₀ false 0
   find-start r h s m = record { fits = r; deep = h; sound = s; memory = m; same = refl; kept = record { long = refl; work-kept = refl; wide = refl; out-kept = refl } }
 
   module _ (out work out′ work′ : List ℤ) (over : Bool) (d : ℕ) (h : Searching ws index rules room log out₀ work₀ out work over d) where
-    fits′ : Kept room (length log) out work out′ work′ → Room ws index rules room log out′ work′
+    fits′ : Kept room (length log) out work out′ work′ → SearchRoom ws index rules room log out′ work′
     fits′ k =
         let r = h .fits in
         record { indexed = r .indexed; rules-are = r .rules-are; few = r .few; narrow = r .narrow; out-fits = omega (arith, r .out-fits, k .wide); work-fits = omega (arith, r .work-fits, k .long) }

@@ -10,8 +10,8 @@ use lib.ListN.{length, getD, take}
 use Rattle.minuska.specs.Bridge.Place.{Accepted}
 use Rattle.replay.specs.Reading.{termOf}
 use Rattle.minuska.specs.Term.{Term}
-use Rattle.memory.specs.Layout.{base, positionOf, wordsOf, Spare, advanced, Enters}
-use Rattle.replay.specs.Turns.{termAt, positionAt, Framed, Sound, Held}
+use Rattle.memory.specs.Layout.{base, positionOf, wordsOf, OwnFits, advanced, Enters}
+use Rattle.replay.specs.Turns.{termAt, positionAt, Framed, SoundFrames, Held}
 use Rattle.words.proofs.PartLaw.{word-below, word-behind}
 use Rattle.memory.specs.Memory.{Entry, Known, Keeps}
 use Rattle.memory.proofs.MemoryLaw.{still-entry}
@@ -34,7 +34,7 @@ module _ (rules room : ℕ) (w w′ : List ℤ) (lo : ℕ) (same : take lo w′ 
       }
 
 -- ---- what is held for a depth, where its frame stands as it was
-module _ (room m : ℕ) (w w′ : List ℤ) (d e i : ℕ) (u : Term) (le : d ≤ e) (long : length w′ ≡ length w) (same : (j : ℕ) → base room i ≤ j → j < base room i + (room + 1) → getD w′ j (pos 0) ≡ getD w j (pos 0)) (sp : i < m → Spare room w (base room i)) where
+module _ (room m : ℕ) (w w′ : List ℤ) (d e i : ℕ) (u : Term) (le : d ≤ e) (long : length w′ ≡ length w) (same : (j : ℕ) → base room i ≤ j → j < base room i + (room + 1) → getD w′ j (pos 0) ≡ getD w j (pos 0)) (sp : i < m → OwnFits room w (base room i)) where
   held-still : Held room m w′ e i u → Held room m w d i u
   held-still (inl h) =
       inl (
@@ -46,7 +46,7 @@ module _ (room m : ℕ) (w w′ : List ℤ) (d e i : ℕ) (u : Term) (le : d ≤
   held-still (inr h) = inr (h .0, h .1, h .2, still-entry room w w′ (base room i) long same (h .0) (h .3), h .4)
 
 -- ---- the frame at depth d goes on to a position
-module _ (rules room m : ℕ) (w : List ℤ) (d p : ℕ) (fits : base room d + (room + 2) ≤ length w) (s : Sound rules room m w d) where
+module _ (rules room m : ℕ) (w : List ℤ) (d p : ℕ) (fits : base room d + (room + 2) ≤ length w) (s : SoundFrames rules room m w d) where
   w₁ : List ℤ
   w₁ = advanced room w (base room d) p
 
@@ -98,7 +98,7 @@ module _ (rules room m : ℕ) (w : List ℤ) (d p : ℕ) (fits : base room d + (
   unfolding w₁
   on-held i u h = held-still room m w w₁ d d i u (omega arith) long₁ (frame₁ i) (s .spare i) h
 
-  pub on-sound : p ≤ rules → Sound rules room m (advanced room w (base room d) p) d
+  pub on-sound : p ≤ rules → SoundFrames rules room m (advanced room w (base room d) p) d
   unfolding w₁
   on-sound h = record { frames = λ i k. at i k (decLt i d); begun = λ i k. subst⁻¹ (λ (x : ℕ). 0 < x) (on-positions i k) (s .begun i k); spare = λ i k. still-spare room w w₁ (base room i) long₁ (frame₁ i) (s .spare i k) }
     where
@@ -135,11 +135,11 @@ module _ (rules room m : ℕ) (w w′ : List ℤ) (j : ℕ) (c : List ℤ) (smal
       side (no h) (no x) = absurd (n (omega arith))
 
   -- held for another depth, it was held
-  pub entered-held : (d i : ℕ) (u : Term) → d ≤ j → (i ≡ j → ⊥) → (i < m → Spare room w (base room i)) → Held room m w′ j i u → Held room m w d i u
+  pub entered-held : (d i : ℕ) (u : Term) → d ≤ j → (i ≡ j → ⊥) → (i < m → OwnFits room w (base room i)) → Held room m w′ j i u → Held room m w d i u
   entered-held d i u le n sp h = held-still room m w w′ d j i u le (ent .wide) (frame₂ i n) sp h
 
   -- held for this one, it was held, or stood in the frame
-  pub in-held : ((i : ℕ) → i < m → Spare room w (base room i)) → Keeps room w w′ (base room j) → (d i : ℕ) (u : Term) → d < j → Held room m w′ j i u → Held room m w d i u
+  pub in-held : ((i : ℕ) → i < m → OwnFits room w (base room i)) → Keeps room w w′ (base room j) → (d i : ℕ) (u : Term) → d < j → Held room m w′ j i u → Held room m w d i u
   in-held sp ks d i u l h = side (decLt i j) (decLt j i) h
     where
       this : (i : ℕ) → j ≡ i → Held room m w′ j i u → Held room m w d i u
@@ -157,7 +157,7 @@ module _ (rules room m : ℕ) (w w′ : List ℤ) (j : ℕ) (c : List ℤ) (smal
       side (no q) (yes x) k = entered-held d i u (omega arith) (λ e. let f : ⊥ = omega arith in f) (sp i) k
       side (no q) (no x) k = this i (omega arith) k
 
-  pub in-sound : Accepted c → ((i : ℕ) → i < j → 0 < positionAt room w i) → ((i : ℕ) → i < m → (i ≡ j → ⊥) → Spare room w (base room i)) → Sound rules room m w′ j
+  pub in-sound : Accepted c → ((i : ℕ) → i < j → 0 < positionAt room w i) → ((i : ℕ) → i < m → (i ≡ j → ⊥) → OwnFits room w (base room i)) → SoundFrames rules room m w′ j
   in-sound acc beg sp = record { frames = λ i k. at i k (decLt i j); begun = λ i k. subst⁻¹ (λ (x : ℕ). 0 < x) (in-positions i k) (beg i k); spare = λ i k. spares i k (decLt i j) (decLt j i) }
     where
       entered-frame : Framed rules room w′ (base room j)
@@ -174,15 +174,15 @@ module _ (rules room m : ℕ) (w w′ : List ℤ) (j : ℕ) (c : List ℤ) (smal
           let e : j ≡ i = omega arith in
           subst (λ (x : ℕ). Framed rules room w′ (base room x)) e entered-frame
 
-      other : (i : ℕ) → i < m → (i ≡ j → ⊥) → Spare room w′ (base room i)
+      other : (i : ℕ) → i < m → (i ≡ j → ⊥) → OwnFits room w′ (base room i)
       other i k n = still-spare room w w′ (base room i) (ent .wide) (frame₂ i n) (sp i k n)
 
-      spares : (i : ℕ) → i < m → Dec (i < j) → Dec (j < i) → Spare room w′ (base room i)
+      spares : (i : ℕ) → i < m → Dec (i < j) → Dec (j < i) → OwnFits room w′ (base room i)
       spares i k (yes q) x = other i k (λ e. let f : ⊥ = omega arith in f)
       spares i k (no q) (yes x) = other i k (λ e. let f : ⊥ = omega arith in f)
       spares i k (no q) (no x) =
           let e : j ≡ i = omega arith in
-          subst (λ (y : ℕ). Spare room w′ (base room y)) e (entered-frame .long)
+          subst (λ (y : ℕ). OwnFits room w′ (base room y)) e (entered-frame .long)
 
 -- back from depth d: its configuration is held
 pub back-held : (room m : ℕ) (w : List ℤ) (d i : ℕ) (u : Term) → Held room m w d i u → Held room m w (suc d) i u ⊎ ((suc d ≡ i) × (termAt room w (suc d) ≡ u))

@@ -11,7 +11,7 @@ use lib.Dec.{leb}
 use lib.ListN.{length, getD, drop}
 use Rattle.minuska.specs.Answer.{ReplayResult, reproduced, exceeded, notReproduced}
 use Rattle.minuska.specs.Computed.Replay.{orLater, prepend, attempt, search}
-use Rattle.replay.specs.Stack.{mark, rest, resume, state, EndedAt, Passed, Waits, Recalls}
+use Rattle.replay.specs.Stack.{mark, rest, resume, state, EndedAt, TriedInVain, Waits, Recalls}
 use Rattle.replay.proofs.StackLaw as Stack
 use Rattle.replay.proofs.StackLaw.{or-assoc, mark-exceeded, mark-not}
 
@@ -56,7 +56,7 @@ module _ {A : Type 0} (size : A → ℕ) (limit : ℕ) (next : ℕ → ℕ → A
   Over = EndedAt size limit next rules log
 
   abbrev Past : Bool → ℕ → A → ℕ → Type 0
-  Past = Passed size limit next rules log
+  Past = TriedInVain size limit next rules log
 
   abbrev Waiting : Bool → ℕ → A → ℕ → A → Type 0
   Waiting = Waits size limit next rules log
@@ -67,7 +67,7 @@ module _ {A : Type 0} (size : A → ℕ) (limit : ℕ) (next : ℕ → ℕ → A
   ended-later b d u h = later b (search size limit next rules (drop d log) u) notReproduced (h ∙ sym (mark-not b))
 
   passed-later : (b : Bool) (d : ℕ) (t : A) (p : ℕ) → Past b d t p → Past true d t p
-  unfolding Passed
+  unfolding TriedInVain
   passed-later b d t p h = later b (Rest d t 0) (Rest d t p) h
 
   waits-later : (b : Bool) (d : ℕ) (t : A) (p : ℕ) (u : A) → Waiting b d t p u → Waiting true d t p u
@@ -76,16 +76,16 @@ module _ {A : Type 0} (size : A → ℕ) (limit : ℕ) (next : ℕ → ℕ → A
 
   -- a configuration that is entered; one at which no position is left
   passed-start : (b : Bool) (d : ℕ) (t : A) → Past b d t 0
-  unfolding Passed
+  unfolding TriedInVain
   passed-start b d t = refl
 
   ended-from : (b : Bool) (d : ℕ) (t : A) (p : ℕ) → d < length log → Past b d t p → Rest d t p ≡ notReproduced → Over b d t
-  unfolding EndedAt Passed
+  unfolding EndedAt TriedInVain
   ended-from b d t p l h e = ap (orLater (mark b)) (Stack.rest-all size limit next rules log d t l) ∙ h ∙ ap (orLater (mark b)) e ∙ mark-not b
 
   -- back: the search of the configuration above has ended
   passed-back : (b : Bool) (d : ℕ) (t : A) (p : ℕ) (u : A) → Waiting b d t p u → Over b (suc d) u → Past b d t p
-  unfolding EndedAt Passed Waits
+  unfolding EndedAt TriedInVain Waits
   passed-back b d t p u h e = h ∙ without b (getD rules (pred p) 0) (go d u) (Rest d t p) e
 
   -- ---- the rule at position q is tried
@@ -94,20 +94,20 @@ module _ {A : Type 0} (size : A → ℕ) (limit : ℕ) (next : ℕ → ℕ → A
     try = attempt size limit (go d) (getD rules q 0) (next (getD log d 0) (getD rules q 0) t)
 
     past : (x : ReplayResult A) → try ≡ x → orLater (mark b) (Rest d t 0) ≡ orLater (mark b) (orLater x (Rest d t (suc q)))
-    unfolding Passed
+    unfolding TriedInVain
     past x e = h ∙ ap (orLater (mark b)) (Stack.rest-step size limit next rules log d t q there ∙ ap (λ (y : ReplayResult A). orLater y (Rest d t (suc q))) e)
 
     passed-none : try ≡ notReproduced → Past b d t (suc q)
-    unfolding Passed
+    unfolding TriedInVain
     passed-none e = past notReproduced e
 
     passed-beyond : try ≡ exceeded → Past true d t (suc q)
-    unfolding Passed
+    unfolding TriedInVain
     passed-beyond e = later b (Rest d t 0) (orLater exceeded (Rest d t (suc q))) (past exceeded e) ∙ mark-exceeded true (Rest d t (suc q))
 
     module _ (u : A) (e : try ≡ prepend (getD rules q 0) (go d u)) where
       passed-skip : Over b (suc d) u → Past b d t (suc q)
-      unfolding Passed EndedAt
+      unfolding TriedInVain EndedAt
       passed-skip k = past (prepend (getD rules q 0) (go d u)) e ∙ without b (getD rules q 0) (go d u) (Rest d t (suc q)) k
 
       waits-down : Waiting b d t (suc q) u
@@ -140,7 +140,7 @@ module _ {A : Type 0} (size : A → ℕ) (limit : ℕ) (next : ℕ → ℕ → A
       waits-to c i h k = rw (terms-to i (omega arith), tries .positions i h, terms-to (suc i) (omega arith)) k
 
       idle : Past b d (term d) q
-      unfolding Passed
+      unfolding TriedInVain
       idle = m .passed ∙ ap (orLater (mark b)) (tries .idle .0)
 
       on : (c : Bool) → Past c d (term d) (suc q) → Past c d (term′ d) (position′ d)

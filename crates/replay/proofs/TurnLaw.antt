@@ -25,10 +25,10 @@ use Rattle.minuska.proofs.ReplayLaw.{next-iff}
 use Rattle.replay.specs.declared.search.Turned.{Turned}
 use Rattle.replay.specs.declared.search.Turned.the-variants.{On, Beyond, Made, Exhausted}
 use Rattle.replay.specs.Reading.{tableOf, termOf}
-use Rattle.memory.specs.Layout.{base, wordsOf, Spare, advanced, Enters}
+use Rattle.memory.specs.Layout.{base, wordsOf, OwnFits, advanced, Enters}
 use Rattle.memory.specs.Memory.{Keeps, Known}
 use Rattle.replay.specs.Stack.{mark, chosen, rest}
-use Rattle.replay.specs.Turns.{termAt, positionAt, Framed, Begun, Sound, Held, stateOf, leftOf, Room, Kept, Sought, TryContract, MadeWithin, Settles, Same, TurnSays, TurnContract}
+use Rattle.replay.specs.Turns.{termAt, positionAt, Framed, Begun, SoundFrames, Held, stateOf, leftOf, SearchRoom, Kept, Sought, TryContract, MadeWithin, Settles, Same, TurnSays, TurnContract}
 use Rattle.replay.proofs.ReadingLaw.{term-of, is-table, is-term}
 use Rattle.replay.proofs.StackLaw as Stack
 use Rattle.replay.proofs.RecallLaw as Recall
@@ -38,7 +38,7 @@ use Rattle.replay.proofs.FrameLaw.{on-terms, on-top, on-positions, on-p
 use Rattle.minuska.proofs.Bridge.AcceptedLaw.{term-length}
 use Rattle.replay.proofs.ToldLaw.{limit-words, Tells, tried-tells}
 
-module _ (ws : List ℤ) (index : List ℕ) (rules room : ℕ) (log : List ℕ) (out work : List ℤ) (d : ℕ) (rm : Room ws index rules room log out work) (deep : d < length log) (s : Sound rules room (length log) work d) where
+module _ (ws : List ℤ) (index : List ℕ) (rules room : ℕ) (log : List ℕ) (out work : List ℤ) (d : ℕ) (rm : SearchRoom ws index rules room log out work) (deep : d < length log) (s : SoundFrames rules room (length log) work d) where
   abbrev t : Table
   t = tableOf ws
 
@@ -110,7 +110,7 @@ module _ (ws : List ℤ) (index : List ℕ) (rules room : ℕ) (log : List ℕ) 
       unfolding work₁
       behind₁ = advanced-behind room work (base room d) (q + 1) frame-fits (base room (length log)) (frame-before room d (length log) deep)
 
-      sound₁ : Sound rules room (length log) work₁ d
+      sound₁ : SoundFrames rules room (length log) work₁ d
       unfolding work₁
       sound₁ = on-sound rules room (length log) work d (q + 1) frame-fits s (omega arith)
 
@@ -302,6 +302,6 @@ module _ (ws : List ℤ) (index : List ℕ) (rules room : ℕ) (log : List ℕ) 
         pub made-within : MadeWithin r room (length out′)
         made-within = within r tells
 
-      pub spare-within : (i : ℕ) → i < length log → Spare room (advanced room work (base room d) (q + 1)) (base room i)
+      pub spare-within : (i : ℕ) → i < length log → OwnFits room (advanced room work (base room d) (q + 1)) (base room i)
       unfolding work₁
       spare-within = sound₁ .spare

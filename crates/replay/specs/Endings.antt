@@ -61,7 +61,7 @@ pub record EndContract (ws : List ℤ) (f : Found) (m room : ℕ) (out : List �
   pub leaves-work : work′ ≡ writeZeros (base room m + (room + 2)) work
 
 -- the replay of checked words, where nothing is refused
-pub record AnswerContract (ws cs : List ℤ) (log : List ℕ) (room : ℕ) (out : List ℤ) (choices : List ℕ) (work out′ : List ℤ) (choices′ : List ℕ) (work′ : List ℤ) (r : CountedAnswer) : Type 0 where
+pub record AcceptedContract (ws cs : List ℤ) (log : List ℕ) (room : ℕ) (out : List ℤ) (choices : List ℕ) (work out′ : List ℤ) (choices′ : List ℕ) (work′ : List ℤ) (r : CountedAnswer) : Type 0 where
   pub answer : r ≡ countedAnswer (gives (replay (tableOf ws) (outLimit room) log (termOf cs)))
   pub leaves : out′ ≡ replayOut (gives (replay (tableOf ws) (outLimit room) log (termOf cs))) out
   pub leaves-choices : choices′ ≡ replayChoices (gives (replay (tableOf ws) (outLimit room) log (termOf cs))) choices

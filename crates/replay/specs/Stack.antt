@@ -39,8 +39,8 @@ module _ {A : Type 0} (size : A → ℕ) (limit : ℕ) (next : ℕ → ℕ → A
   EndedAt over d u = orLater (mark over) (search size limit next rules (drop d log) u) ≡ mark over
 
   -- what was tried at depth d before position p adds nothing
-  unfoldable pub Passed : Bool → ℕ → A → ℕ → Type 0
-  Passed over d t p = orLater (mark over) (rest d t 0) ≡ orLater (mark over) (rest d t p)
+  unfoldable pub TriedInVain : Bool → ℕ → A → ℕ → Type 0
+  TriedInVain over d t p = orLater (mark over) (rest d t 0) ≡ orLater (mark over) (rest d t p)
 
   -- the rule before position p, tried last, led to u: what was tried before it adds nothing
   unfoldable pub Waits : Bool → ℕ → A → ℕ → A → Type 0
@@ -48,7 +48,7 @@ module _ {A : Type 0} (size : A → ℕ) (limit : ℕ) (next : ℕ → ℕ → A
 
   -- a search at depth d that holds some configurations, each for a depth
   pub record Recalls (held : ℕ → A → Type 0) (term : ℕ → A) (position : ℕ → ℕ) (over : Bool) (d : ℕ) : Type 0 where
-    pub passed : Passed over d (term d) (position d)
+    pub passed : TriedInVain over d (term d) (position d)
     pub waits : (i : ℕ) → i < d → Waits over i (term i) (position i) (term (suc i))
     pub ended : (i : ℕ) (u : A) → held i u → EndedAt over i u
 

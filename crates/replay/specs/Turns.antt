@@ -21,7 +21,7 @@ use Rattle.replay.specs.declared.search.Turned.the-variants.{On, Beyond,
 use Rattle.replay.specs.declared.search.Found.{Found}
 use Rattle.replay.specs.declared.search.Found.the-variants.{Path, Over, Nothing}
 use Rattle.replay.specs.Reading.{tableOf, termOf}
-use Rattle.memory.specs.Layout.{base, lengthOf, positionOf, wordsOf, Spare, Enters}
+use Rattle.memory.specs.Layout.{maxRoom, base, lengthOf, positionOf, wordsOf, OwnFits, Enters}
 use Rattle.memory.specs.Memory.{Entry, Keeps, Known}
 use Rattle.replay.specs.Stack.{mark, chosen, state, left, Recalls}
 
@@ -44,10 +44,10 @@ pub record Begun (rules room : ℕ) (work : List ℤ) (at : ℕ) : Type 0 where
   pub within : positionOf room work at ≤ rules
 
 -- the frames up to depth d; those below d have tried a rule; the configuration of any of the m frames may be looked at
-pub record Sound (rules room m : ℕ) (work : List ℤ) (d : ℕ) : Type 0 where
+pub record SoundFrames (rules room m : ℕ) (work : List ℤ) (d : ℕ) : Type 0 where
   pub frames : (i : ℕ) → i ≤ d → Framed rules room work (base room i)
   pub begun : (i : ℕ) → i < d → 0 < positionAt room work i
-  pub spare : (i : ℕ) → i < m → Spare room work (base room i)
+  pub spare : (i : ℕ) → i < m → OwnFits room work (base room i)
 
 -- what is held for depth i while the search stands at depth d: the configuration of a frame behind d, whose search has ended; and what a frame's table has
 abbrev pub Held : ℕ → ℕ → List ℤ → ℕ → ℕ → Term → Type 0
@@ -66,11 +66,11 @@ unfoldable pub leftOf : Table → ℕ → List ℕ → List ℤ → ℕ → ℕ
 leftOf t room log work d = left (next t) (order t) log (termAt room work) (positionAt room work) (suc d)
 
 -- ---- what the search asks of its arguments
-pub record Room (ws : List ℤ) (index : List ℕ) (rules room : ℕ) (log : List ℕ) (out work : List ℤ) : Type 0 where
+pub record SearchRoom (ws : List ℤ) (index : List ℕ) (rules room : ℕ) (log : List ℕ) (out work : List ℤ) : Type 0 where
   pub indexed : Indexed ws index
   pub rules-are : rules ≡ length (order (tableOf ws))
   pub few : rules ≤ 256
-  pub narrow : room ≤ 65536
+  pub narrow : room ≤ maxRoom
   pub out-fits : room ≤ length out
   pub work-fits : length log * (room + 2) + (room + 2) ≤ length work
 
@@ -134,9 +134,9 @@ Marks t room log d work work′ = (b : Bool) → MemoryOf t room log work b d �
 
 abbrev pub TurnSays : Table → ℕ → ℕ → List ℕ → ℕ → List ℤ → List ℤ → List ℤ → Turned → Type 0
 TurnSays t rules room log d work out′ work′ (On e) =
-    (e < length log) × Sound rules room (length log) work′ e × Same t room log d work e work′ × (leftOf t room log work′ e < leftOf t room log work d)
+    (e < length log) × SoundFrames rules room (length log) work′ e × Same t room log d work e work′ × (leftOf t room log work′ e < leftOf t room log work d)
 TurnSays t rules room log d work out′ work′ Beyond =
-    Sound rules room (length log) work′ d × Marks t room log d work work′ × (leftOf t room log work′ d < leftOf t room log work d)
+    SoundFrames rules room (length log) work′ d × Marks t room log d work work′ × (leftOf t room log work′ d < leftOf t room log work d)
 TurnSays t rules room log d work out′ work′ (Made k) =
     Finds rules room log out′ work′ k × ((b : Bool) → stateOf t room log work b d ≡ found t room log out′ work′ k)
 TurnSays t rules room log d work out′ work′ Exhausted = (b : Bool) → stateOf t room log work b d ≡ mark b

@@ -12,7 +12,7 @@ ghost use Rattle.minuska.specs.Slice.{writeZeros};
 ghost use Rattle.minuska.specs.Computed.Step.{order};
 ghost use Rattle.minuska.specs.Bridge.Place.{Indexed};
 ghost use Rattle.replay.specs.Reading.{tableOf};
-ghost use Rattle.memory.specs.Layout.{base, positionOf};
+ghost use Rattle.memory.specs.Layout.{maxRoom, base, positionOf};
 ghost use Rattle.replay.specs.Stack.{chosen};
 ghost use Rattle.replay.specs.Turns.{positionAt, Begun};
 ghost use Rattle.replay.specs.Endings.{restored, FoundWithin, EndContract};
@@ -38,7 +38,7 @@ fn write_choices(
     actions: usize,
 )
     requires { ⌜ Indexed (now table) (now index) ⌝ }
-    requires { ⌜ (actions ≤ length (now choices)) × (base room actions ≤ length (now work)) × (room ≤ 65536) ⌝ }
+    requires { ⌜ (actions ≤ length (now choices)) × (base room actions ≤ length (now work)) × (room ≤ maxRoom) ⌝ }
     requires { ⌜ ((i : ℕ) → i < actions → Begun (length (order (tableOf (now table)))) room (now work) (base room i)) ⌝ }
     ensures { λ _. ⌜ now (choices .exit) ≡ chosen (order (tableOf (now (table .entry)))) (positionAt room (now (work .entry))) actions ++ drop actions (now (choices .entry)) ⌝ }
 {
@@ -74,7 +74,7 @@ pub fn conclude(
     work: &mut [i64],
 ) -> CountedAnswer
     requires { ⌜ Indexed (now table) (now index) ⌝ }
-    requires { ⌜ (base room actions + (room + 2) ≤ length (now work)) × (room ≤ length (now out)) × (room ≤ 65536) × (actions ≤ length (now choices)) ⌝ }
+    requires { ⌜ (base room actions + (room + 2) ≤ length (now work)) × (room ≤ length (now out)) × (room ≤ maxRoom) × (actions ≤ length (now choices)) ⌝ }
     requires { ⌜ FoundWithin found (length (order (tableOf (now table)))) actions room (now work) ⌝ }
     ensures { λ r. ⌜ EndContract (now (table .entry)) found actions room (now (out .entry)) (now (choices .entry)) (now (work .entry)) (now (out .exit)) (now (choices .exit)) (now (work .exit)) r ⌝ }
 {

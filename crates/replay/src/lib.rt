@@ -15,10 +15,10 @@ ghost use lib.ListN.{length};
 ghost use Rattle.minuska.specs.Bridge.Place.{Accepted};
 ghost use Rattle.minuska.specs.Contract.{ReplayContract};
 ghost use Rattle.minuska.specs.Computed.Outcome.{replayShort};
-ghost use Rattle.memory.specs.Layout.{base};
+ghost use Rattle.memory.specs.Layout.{maxRoom, base};
 ghost use Rattle.replay.specs.Counted.{uncounted, CountedContract};
-ghost use Rattle.replay.specs.Turns.{Room};
-ghost use Rattle.replay.specs.Endings.{SetsUp, AnswerContract};
+ghost use Rattle.replay.specs.Turns.{SearchRoom};
+ghost use Rattle.replay.specs.Endings.{SetsUp, AcceptedContract};
 
 // A replay's answer with the node count of the last configuration, for crates above: document 01 has none in the answer itself.
 pub enum CountedAnswer {
@@ -36,7 +36,7 @@ fn set_up(
     room: usize,
     configuration: &[i64],
 )
-    requires { ⌜ (last + (room + 2) ≤ length (now work)) × (last ≡ base room actions) × (room ≤ length (now out)) × (length (now configuration) ≤ room) × (room ≤ 65536) ⌝ }
+    requires { ⌜ (last + (room + 2) ≤ length (now work)) × (last ≡ base room actions) × (room ≤ length (now out)) × (length (now configuration) ≤ room) × (room ≤ maxRoom) ⌝ }
     ensures { λ _. ⌜ SetsUp room actions (now (configuration .entry)) (now (out .entry)) (now (work .entry)) (now (work .exit)) ⌝ }
 {
     words::copy(work, last, &out[..room]);
@@ -45,7 +45,7 @@ fn set_up(
 }
 
 // The replay of checked words, `room` twice the limit, where nothing is refused.
-fn answer(
+fn replay_accepted(
     table: &[i64],
     index: &Index,
     configuration: &[i64],
@@ -56,10 +56,10 @@ fn answer(
     choices: &mut [u16],
     work: &mut [i64],
 ) -> CountedAnswer
-    requires { ⌜ Room (now table) (now index) rules room (now log) (now out) (now work) ⌝ }
+    requires { ⌜ SearchRoom (now table) (now index) rules room (now log) (now out) (now work) ⌝ }
     requires { ⌜ (length (now configuration) ≤ room) × (length (now log) ≤ length (now choices)) ⌝ }
     requires { ⌜ Accepted (now configuration) ⌝ }
-    ensures { λ r. ⌜ AnswerContract (now (table .entry)) (now (configuration .entry)) (now (log .entry)) room (now (out .entry)) (now (choices .entry)) (now (work .entry)) (now (out .exit)) (now (choices .exit)) (now (work .exit)) r ⌝ }
+    ensures { λ r. ⌜ AcceptedContract (now (table .entry)) (now (configuration .entry)) (now (log .entry)) room (now (out .entry)) (now (choices .entry)) (now (work .entry)) (now (out .exit)) (now (choices .exit)) (now (work .exit)) r ⌝ }
 {
     let actions = log.len();
     let last = frame::base_at(room, actions);
@@ -111,7 +111,7 @@ pub fn replay_counted(
         return CountedAnswer::Refused(refusal);
     }
     let rules = step::rule_count(table, &index);
-    answer(
+    replay_accepted(
         table,
         &index,
         configuration,

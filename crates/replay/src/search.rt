@@ -10,8 +10,8 @@ ghost use lib.ListN.{length, getD};
 ghost use Rattle.minuska.specs.Computed.Step.{order};
 ghost use Rattle.minuska.specs.Bridge.Place.{Indexed};
 ghost use Rattle.replay.specs.Reading.{tableOf};
-ghost use Rattle.memory.specs.Layout.{base, wordsOf, Spare};
-ghost use Rattle.replay.specs.Turns.{positionAt, Framed, Sound, MemoryOf, Room, Sought, TryContract, MadeWithin, Descends, Settles, TurnContract, SearchContract};
+ghost use Rattle.memory.specs.Layout.{maxRoom, base, wordsOf, OwnFits};
+ghost use Rattle.replay.specs.Turns.{positionAt, Framed, SoundFrames, MemoryOf, SearchRoom, Sought, TryContract, MadeWithin, Descends, Settles, TurnContract, SearchContract};
 
 // What one turn comes to.
 pub enum Turned {
@@ -81,9 +81,9 @@ fn descend(
     out: &[i64],
     work: &mut [i64],
 ) -> Turned
-    requires { ⌜ (depth < actions) × (actions * (room + 2) ≤ length (now work)) × (room ≤ 65536) ⌝ }
+    requires { ⌜ (depth < actions) × (actions * (room + 2) ≤ length (now work)) × (room ≤ maxRoom) ⌝ }
     requires { ⌜ (0 < words) × (words ≤ room) × (words ≤ length (now out)) ⌝ }
-    requires { ⌜ ((i : ℕ) → i < actions → Spare room (now work) (base room i)) ⌝ }
+    requires { ⌜ ((i : ℕ) → i < actions → OwnFits room (now work) (base room i)) ⌝ }
     ensures { λ r. ⌜ Descends words actions room remember depth (now (out .entry)) (now (work .entry)) (now (work .exit)) r ⌝ }
 {
     let next = depth + 1;
@@ -109,9 +109,9 @@ fn settle(
     out: &[i64],
     work: &mut [i64],
 ) -> Turned
-    requires { ⌜ (depth < actions) × (actions * (room + 2) ≤ length (now work)) × (room ≤ 65536) ⌝ }
+    requires { ⌜ (depth < actions) × (actions * (room + 2) ≤ length (now work)) × (room ≤ maxRoom) ⌝ }
     requires { ⌜ MadeWithin answer room (length (now out)) ⌝ }
-    requires { ⌜ ((i : ℕ) → i < actions → Spare room (now work) (base room i)) ⌝ }
+    requires { ⌜ ((i : ℕ) → i < actions → OwnFits room (now work) (base room i)) ⌝ }
     ensures { λ r. ⌜ Settles answer actions room remember depth (now (out .entry)) (now (work .entry)) (now (work .exit)) r ⌝ }
 {
     match answer {
@@ -138,10 +138,10 @@ fn go_on(
     out: &mut [i64],
     work: &mut [i64],
 ) -> Turned
-    requires { ⌜ Room (now table) (now index) rules room (now log) (now out) (now work) ⌝ }
+    requires { ⌜ SearchRoom (now table) (now index) rules room (now log) (now out) (now work) ⌝ }
     requires { ⌜ (depth < length (now log)) × (position < rules) ⌝ }
     requires { ⌜ Sought (tableOf (now table)) rules (getD (now log) depth 0) (positionAt room (now work) depth) position ⌝ }
-    requires { ⌜ Sound rules room (length (now log)) (now work) depth ⌝ }
+    requires { ⌜ SoundFrames rules room (length (now log)) (now work) depth ⌝ }
     ensures { λ r. ⌜ TurnContract (now (table .entry)) rules room (now (log .entry)) depth (now (out .entry)) (now (work .entry)) (now (out .exit)) (now (work .exit)) r ⌝ }
 {
     let at = frame::base_at(room, depth);
@@ -162,9 +162,9 @@ fn turn(
     out: &mut [i64],
     work: &mut [i64],
 ) -> Turned
-    requires { ⌜ Room (now table) (now index) rules room (now log) (now out) (now work) ⌝ }
+    requires { ⌜ SearchRoom (now table) (now index) rules room (now log) (now out) (now work) ⌝ }
     requires { ⌜ depth < length (now log) ⌝ }
-    requires { ⌜ Sound rules room (length (now log)) (now work) depth ⌝ }
+    requires { ⌜ SoundFrames rules room (length (now log)) (now work) depth ⌝ }
     ensures { λ r. ⌜ TurnContract (now (table .entry)) rules room (now (log .entry)) depth (now (out .entry)) (now (work .entry)) (now (out .exit)) (now (work .exit)) r ⌝ }
 {
     let at = frame::base_at(room, depth);
@@ -202,9 +202,9 @@ pub fn find(
     out: &mut [i64],
     work: &mut [i64],
 ) -> Found
-    requires { ⌜ Room (now table) (now index) rules room (now log) (now out) (now work) ⌝ }
+    requires { ⌜ SearchRoom (now table) (now index) rules room (now log) (now out) (now work) ⌝ }
     requires { ⌜ 0 < length (now log) ⌝ }
-    requires { ⌜ Sound rules room (length (now log)) (now work) 0 ⌝ }
+    requires { ⌜ SoundFrames rules room (length (now log)) (now work) 0 ⌝ }
     requires { ⌜ MemoryOf (tableOf (now table)) room (now log) (now work) false 0 ⌝ }
     ensures { λ r. ⌜ SearchContract (now (table .entry)) rules room (now (log .entry)) (now (out .entry)) (now (work .entry)) (now (out .exit)) (now (work .exit)) r ⌝ }
 {

@@ -19,7 +19,7 @@ use Rattle.minuska.proofs.ShutLaw.{run-out-refused, run-out-gives, run-spare-re
 use Rattle.words.proofs.CopyLaw.{same-zeros}
 use Rattle.run.specs.declared.Ended.{Ended}
 use Rattle.run.specs.Sides.{bySide}
-use Rattle.run.specs.Ending.{Ends, Finishes}
+use Rattle.run.specs.Ending.{RunEnds, Finishes}
 
 -- ---- words and zeros written from the start of a slice
 filled-length : (n : ℕ) (xs : List ℤ) → length xs ≤ n → length (xs ++ replicate (n - length xs) (pos 0)) ≡ n
@@ -48,7 +48,7 @@ module _ (ws cs : List ℤ) (budget limit : ℕ) (out spare : List ℤ) where
   abbrev outcome : Outcome RunResult
   outcome = runOutcome ws cs budget limit (length out) (length spare)
 
-  pub ended : (r : Ended) (out₁ spare₁ out₂ spare₂ : List ℤ) → Ends ws cs budget limit out spare out₁ spare₁ r →
+  pub ended : (r : Ended) (out₁ spare₁ out₂ spare₂ : List ℤ) → RunEnds ws cs budget limit out spare out₁ spare₁ r →
       Finishes (2 * limit) (take (2 * r .nodes) (bySide (r .side) cs out₁ spare₁)) out₁ spare₁ out₂ spare₂ → RunContract ws cs budget limit out spare out₂ spare₂ (r .answer)
   ended r out₁ spare₁ out₂ spare₂ p q =
       let xs = encode (single (p .result .last)) in

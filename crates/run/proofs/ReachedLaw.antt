@@ -26,7 +26,7 @@ use Rattle.run.specs.declared.Side.{Side}
 use Rattle.run.specs.declared.Side.the-variants.{Initial}
 use Rattle.run.specs.declared.Verdict.the-variants.{On, End}
 use Rattle.run.specs.Sides.{bySide, other, StartsWith, StepsAcross, judged}
-use Rattle.run.specs.Ending.{Ends}
+use Rattle.run.specs.Ending.{RunEnds}
 use Rattle.run.proofs.SidesLaw.{next-stands, current-keeps, both-behind, either}
 use Rattle.run.proofs.JudgedLaw.{after, after-none, succeeds, steps-on, ends}
 
@@ -39,7 +39,7 @@ front : (xs ys old : List ℤ) (n m : ℕ) → length xs ≡ n → n ≤ m → t
 front xs ys old n m l h e = sym (take-take n m ys h) ∙ ap (take n) e ∙ take-at xs (drop (length xs) old) n l
 
 module _ (ws cs : List ℤ) (budget limit : ℕ) (out₀ spare₀ : List ℤ) where
-  pub record Reached (side : Side) (nodes k : ℕ) (out spare : List ℤ) : Type 0 where
+  pub record RunReached (side : Side) (nodes k : ℕ) (out spare : List ℤ) : Type 0 where
     pub table : Table
     pub isTable : IsTable ws table
     pub term : Term
@@ -56,7 +56,7 @@ module _ (ws cs : List ℤ) (budget limit : ℕ) (out₀ spare₀ : List ℤ) wh
 
   -- AT FIRST
   pub reached-first : (t : Table) (g : Term) → IsTable ws t → IsConfiguration cs g → length cs / 2 ≤ limit → limit ≤ maxNodes →
-      runOutcome ws cs budget limit (length out₀) (length spare₀) ≡ gives (run t limit budget g) → Reached Initial (length cs / 2) 0 out₀ spare₀
+      runOutcome ws cs budget limit (length out₀) (length spare₀) ≡ gives (run t limit budget g) → RunReached Initial (length cs / 2) 0 out₀ spare₀
   reached-first t g p q f b e =
       let l = configuration-length cs g q in
       let w : length cs ≤ 2 * (length cs / 2) = omega arith in
@@ -76,7 +76,7 @@ module _ (ws cs : List ℤ) (budget limit : ℕ) (out₀ spare₀ : List ℤ) wh
         spareBehind = refl;
       }
 
-  module _ (side : Side) (nodes k : ℕ) (out spare : List ℤ) (s : Reached side nodes k out spare) where
+  module _ (side : Side) (nodes k : ℕ) (out spare : List ℤ) (s : RunReached side nodes k out spare) where
     pub reached-holds : StartsWith (bySide side cs out spare) nodes
     reached-holds = record { accepted = record { term = s .term; is = s .is }; within = s .within }
 
@@ -94,7 +94,7 @@ module _ (ws cs : List ℤ) (budget limit : ℕ) (out₀ spare₀ : List ℤ) wh
 
       -- ONE STEP MORE
       pub reached-more : (n : ℕ) → judged r k budget ≡ On n → length out′ ≡ length out → length spare′ ≡ length spare → 2 * limit ≤ length out₀ → 2 * limit ≤ length spare₀ →
-          Reached (other side) n (k + 1) out′ spare′
+          RunReached (other side) n (k + 1) out′ spare′
       reached-more n j o p ro rs =
           let m = succeeds k budget (step (s .table) limit (s .term)) n (rw answers at j) in
           let h = m .successor in
@@ -128,7 +128,7 @@ module _ (ws cs : List ℤ) (budget limit : ℕ) (out₀ spare₀ : List ℤ) wh
           }
 
       -- THE END
-      pub reached-end : (answer : RunAnswer) → judged r k budget ≡ End answer → Ends ws cs budget limit out₀ spare₀ out′ spare′ (record { answer = answer; side = side; nodes = nodes })
+      pub reached-end : (answer : RunAnswer) → judged r k budget ≡ End answer → RunEnds ws cs budget limit out₀ spare₀ out′ spare′ (record { answer = answer; side = side; nodes = nodes })
       reached-end answer j =
           let e = ends k budget (s .table) limit (s .term) (step (s .table) limit (s .term)) answer refl (rw answers at j) in
           let c = current-keeps side cs out spare out′ spare′ (t .keeps) in

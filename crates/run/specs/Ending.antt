@@ -13,7 +13,7 @@ use Rattle.run.specs.declared.Ended.{Ended}
 use Rattle.run.specs.Sides.{bySide}
 
 -- the run's answer; its last configuration stands at the start of the slice that is named; the words behind the limit's keep
-pub record Ends (table config : List ℤ) (budget limit : ℕ) (out spare out′ spare′ : List ℤ) (r : Ended) : Type 0 where
+pub record RunEnds (table config : List ℤ) (budget limit : ℕ) (out spare out′ spare′ : List ℤ) (r : Ended) : Type 0 where
   pub result : RunResult
   pub is : runOutcome table config budget limit (length out) (length spare) ≡ gives result
   pub answer : r .answer ≡ runAnswer (gives result)

@@ -14,7 +14,7 @@ ghost use Rattle.minuska.specs.Computed.Outcome.{stepOutcome, runShort};
 ghost use Rattle.minuska.specs.Bridge.Place.{Indexed, Accepted};
 ghost use Rattle.run.specs.Sides.{bySide, other, StartsWith, StepsInto, StepsAcross, judged};
 ghost use Rattle.run.specs.Allowed.{Allowed};
-ghost use Rattle.run.specs.Ending.{Ends, Finishes};
+ghost use Rattle.run.specs.Ending.{RunEnds, Finishes};
 
 // Where the current configuration stands: as it was given, in out, or in spare.
 enum Side {
@@ -120,7 +120,7 @@ fn advance<'a>(
     spare: &mut [i64],
 ) -> Ended
     requires { ⌜ Indexed (now table) (now index) × Accepted (now configuration) × Allowed (length (now configuration) / 2) budget limit (length (now out)) (length (now spare)) ⌝ }
-    ensures { λ r. ⌜ Ends (now (table .entry)) (now (configuration .entry)) budget limit (now (out .entry)) (now (spare .entry)) (now (out .exit)) (now (spare .exit)) r ⌝ }
+    ensures { λ r. ⌜ RunEnds (now (table .entry)) (now (configuration .entry)) budget limit (now (out .entry)) (now (spare .entry)) (now (out .exit)) (now (spare .exit)) r ⌝ }
 {
     let words = 2 * limit;
     let mut side = Side::Initial;

@@ -8,51 +8,26 @@ use native.Mathlib.Omega.{arith}
 use lib.Dec.{eqb, ltb, leb}
 use lib.IntN.{ℤ}
 use lib.ListN.{length}
-use borrow.Author.Tests.{lt-ltb, le-ltb, eq-eqb, ne-eqb, le-leb, lt-leb, ltb-true, ltb-false, leb-true, leb-false, eqb-false}
+use borrow.Author.Tests.{lt-ltb, le-ltb, ne-eqb, le-leb, lt-leb, ltb-true, ltb-false, eqb-false}
 use Rattle.minuska.specs.declared.Check.{Check}
 use Rattle.minuska.specs.declared.Check.the-variants.{Good, Refused}
 use Rattle.minuska.specs.declared.Refusal.{Refusal}
-use Rattle.minuska.specs.declared.Refusal.the-variants.{TooLong, BadLimit, ShortBuffer}
 use Rattle.minuska.specs.Term.{Term, nodeCount}
 use Rattle.minuska.specs.Rule.{Table, maxNodes, IsTable, IsConfiguration}
 use Rattle.minuska.specs.Answer.{Outcome, refused, gives}
 use Rattle.minuska.specs.Computed.Outcome.{Test, tested, sizeTests, limitRefused, onWords}
 use Rattle.minuska.proofs.OutcomeLaw.{on-words}
 use Rattle.minuska.proofs.Bridge.AcceptedLaw.{configuration-length}
-use Rattle.sizes.specs.Sizes.{firstOf, limitOutside, sizeCheck, Sized}
+use Rattle.sizes.specs.Sizes.{firstTest, limitOutside, sizeCheck, Sized}
 
 -- two tests that do not pass
 pub neither : (a b : Bool) → a || b ≡ false → (a ≡ false) × (b ≡ false)
 neither true b e = absurd (true≢false e)
 neither false b e = (refl, e)
 
--- ---- by what the code tests
 module _ (n most nodes limit : ℕ) (short : Bool) where
-  pub too-long : most < n → Refused TooLong ≡ sizeCheck n most nodes limit short
-  unfolding sizeCheck
-  too-long h = rw (lt-ltb most n h)
-
-  module _ (h : n ≤ most) where
-    pub limit-none : limit ≡ 0 → Refused BadLimit ≡ sizeCheck n most nodes limit short
-    unfolding sizeCheck
-    limit-none e = rw (le-ltb most n h, eq-eqb limit 0 e)
-
-    module _ (z : limit ≡ 0 → ⊥) where
-      pub limit-high : maxNodes < limit → Refused BadLimit ≡ sizeCheck n most nodes limit short
-      unfolding sizeCheck
-      limit-high a = rw (le-ltb most n h, ne-eqb limit 0 z, lt-ltb maxNodes limit a)
-
-      module _ (a : limit ≤ maxNodes) where
-        pub limit-low : limit < nodes → Refused BadLimit ≡ sizeCheck n most nodes limit short
-        unfolding sizeCheck
-        limit-low b = rw (le-ltb most n h, ne-eqb limit 0 z, le-ltb maxNodes limit a, lt-ltb limit nodes b)
-
-        pub last-test : nodes ≤ limit → (s : Bool) → short ≡ s → cond s (Refused ShortBuffer) Good ≡ sizeCheck n most nodes limit short
-        unfolding sizeCheck
-        last-test b s e = rw (le-ltb most n h, ne-eqb limit 0 z, le-ltb maxNodes limit a, le-ltb limit nodes b, e)
-
   -- ---- what holds where there is none, and the other way round
-  none-given : (l b s : Bool) → firstOf (sizeTests l b s) ≡ Good → (l ≡ false) × (b ≡ false) × (s ≡ false)
+  none-given : (l b s : Bool) → firstTest (sizeTests l b s) ≡ Good → (l ≡ false) × (b ≡ false) × (s ≡ false)
   none-given true b s e = absurd (let z : _≡_ {A = ℕ} 0 1 = cc in let f : ⊥ = omega arith in f)
   none-given false true s e = absurd (let z : _≡_ {A = ℕ} 0 1 = cc in let f : ⊥ = omega arith in f)
   none-given false false true e = absurd (let z : _≡_ {A = ℕ} 0 1 = cc in let f : ⊥ = omega arith in f)
@@ -68,7 +43,11 @@ module _ (n most nodes limit : ℕ) (short : Bool) where
       record { few = ltb-false most n (p .0); positive = omega (arith, z); bounded = ltb-false maxNodes limit (r .1); fits = ltb-false limit nodes (q .1); roomy = p .2 }
 
   pub sizes-good : Sized n most nodes limit short → sizeCheck n most nodes limit short ≡ Good
-  sizes-good s = let z = s .positive in sym (last-test (s .few) (λ e. omega arith) (s .bounded) (s .fits) false (s .roomy))
+  unfolding sizeCheck
+  sizes-good s =
+      let p = s .positive in
+      let z : limit ≡ 0 → ⊥ = λ e. omega arith in
+      rw (le-ltb most n (s .few), ne-eqb limit 0 z, le-ltb maxNodes limit (s .bounded), le-ltb limit nodes (s .fits), s .roomy)
 
 -- ---- words that do not hold nodes, or frames, without a product
 pub nodes-lacked : (words nodes : ℕ) → ltb (words / 2) nodes ≡ ltb words (2 * nodes)
@@ -97,19 +76,19 @@ module _ (words frames nodes : ℕ) (some : 0 < frames) where
 
 -- ---- tests in order, and what is answered behind them
 module _ {A : Type 0} (x : A) where
-  pub tested-refused : (ts : List Test) (r : Refusal) → firstOf ts ≡ Refused r → tested ts x ≡ refused r
+  pub tested-refused : (ts : List Test) (r : Refusal) → firstTest ts ≡ Refused r → tested ts x ≡ refused r
   tested-refused [] r e = absurd (let z : _≡_ {A = ℕ} 0 1 = cc in let f : ⊥ = omega arith in f)
   tested-refused (t ∷ ts) r e = pick (t .given) (λ h. tested-refused ts r h) e
     where
-      pick : (b : Bool) → (firstOf ts ≡ Refused r → tested ts x ≡ refused r) → cond b (Refused (t .refusal)) (firstOf ts) ≡ Refused r → cond b (refused (t .refusal)) (tested ts x) ≡ refused r
+      pick : (b : Bool) → (firstTest ts ≡ Refused r → tested ts x ≡ refused r) → cond b (Refused (t .refusal)) (firstTest ts) ≡ Refused r → cond b (refused (t .refusal)) (tested ts x) ≡ refused r
       pick true rest h = let f : t .refusal ≡ r = cc in ap {B = Outcome A} refused f
       pick false rest h = rest h
 
-  pub tested-good : (ts : List Test) → firstOf ts ≡ Good → tested ts x ≡ gives x
+  pub tested-good : (ts : List Test) → firstTest ts ≡ Good → tested ts x ≡ gives x
   tested-good [] e = refl
   tested-good (t ∷ ts) e = pick (t .given) (λ h. tested-good ts h) e
     where
-      pick : (b : Bool) → (firstOf ts ≡ Good → tested ts x ≡ gives x) → cond b (Refused (t .refusal)) (firstOf ts) ≡ Good → cond b (refused (t .refusal)) (tested ts x) ≡ gives x
+      pick : (b : Bool) → (firstTest ts ≡ Good → tested ts x ≡ gives x) → cond b (Refused (t .refusal)) (firstTest ts) ≡ Good → cond b (refused (t .refusal)) (tested ts x) ≡ gives x
       pick true rest h = absurd (let z : _≡_ {A = ℕ} 0 1 = cc in let f : ⊥ = omega arith in f)
       pick false rest h = rest h
 
@@ -124,7 +103,7 @@ module _ {A : Type 0} (ws cs : List ℤ) (t : Table) (g : Term) (p : IsTable ws 
   outcome-is : outcome ≡ tested tests (answer t g)
   outcome-is = on-words ws cs t g p q (λ u h. tested (sizeTests (ltb most n) (limitRefused limit h) short) (answer u h))
 
-  check-is : sizeCheck n most (length cs / 2) limit short ≡ firstOf tests
+  check-is : sizeCheck n most (length cs / 2) limit short ≡ firstTest tests
   unfolding sizeCheck
   check-is = let e : length cs / 2 ≡ nodeCount g = omega (arith, configuration-length cs g q) in rw e
 

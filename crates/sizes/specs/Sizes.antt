@@ -10,9 +10,9 @@ use Rattle.minuska.specs.Rule.{maxNodes}
 use Rattle.minuska.specs.Computed.Outcome.{Test, sizeTests}
 
 -- the first test that passes: "lower numbers go first"
-abbrev pub firstOf : List Test → Check
-firstOf [] = Good
-firstOf (t ∷ ts) = cond (t .given) (Refused (t .refusal)) (firstOf ts)
+abbrev pub firstTest : List Test → Check
+firstTest [] = Good
+firstTest (t ∷ ts) = cond (t .given) (Refused (t .refusal)) (firstTest ts)
 
 -- 4: "N is 0, above 32,768, or below the opening's nodes"
 abbrev pub limitOutside : ℕ → ℕ → Bool
@@ -20,7 +20,7 @@ limitOutside limit nodes = eqb limit 0 || ltb maxNodes limit || ltb limit nodes
 
 -- 3: "log above 4,096 or budget above 1,000,000"; 5: "a slice is shorter than stated"
 unfoldable pub sizeCheck : ℕ → ℕ → ℕ → ℕ → Bool → Check
-sizeCheck count most nodes limit short = firstOf (sizeTests (ltb most count) (limitOutside limit nodes) short)
+sizeCheck count most nodes limit short = firstTest (sizeTests (ltb most count) (limitOutside limit nodes) short)
 
 -- none of them
 pub record Sized (count most nodes limit : ℕ) (short : Bool) : Type 0 where

@@ -5,7 +5,20 @@ use minuska::limits::MAX_NODES;
 ghost use mathlib.Core.Path.{_≡_};
 ghost use Prim.Native.Nat.{_+_, _*_, _<_};
 ghost use lib.Dec.{ltb};
-ghost use Rattle.sizes.specs.Sizes.{sizeCheck};
+ghost use Rattle.sizes.specs.Sizes.{limitOutside, sizeCheck};
+
+// 4: whether a limit is out of range, or below the configuration's nodes.
+fn limit_outside(limit: usize, nodes: usize) -> bool
+    ensures { λ r. ⌜ r ≡ limitOutside limit nodes ⌝ }
+{
+    if limit == 0 {
+        return true;
+    }
+    if MAX_NODES < limit {
+        return true;
+    }
+    limit < nodes
+}
 
 // In order: a count above the most, a limit out of range or below the configuration's nodes, a slice that is short.
 pub fn check_sizes(count: usize, most: usize, nodes: usize, limit: usize, short: bool) -> Check
@@ -14,13 +27,7 @@ pub fn check_sizes(count: usize, most: usize, nodes: usize, limit: usize, short:
     if most < count {
         return Check::Refused(Refusal::TooLong);
     }
-    if limit == 0 {
-        return Check::Refused(Refusal::BadLimit);
-    }
-    if MAX_NODES < limit {
-        return Check::Refused(Refusal::BadLimit);
-    }
-    if limit < nodes {
+    if limit_outside(limit, nodes) {
         return Check::Refused(Refusal::BadLimit);
     }
     if short {

@@ -71,11 +71,11 @@ rule-count-requires c κs =
     let k = c .before .before .before .before .before in
     k .before .before .accept .ensures .indexed (k .enum-told .given .1)
 
-mul-answer : tie.Need-mul-answer
-mul-answer c = omega (arith, fitting (c .before .before .before) .bounded)
+mul-replay-accepted : tie.Need-mul-replay-accepted
+mul-replay-accepted c = omega (arith, fitting (c .before .before .before) .bounded)
 
-answer-requires : tie.Need-answer-requires
-answer-requires c κs =
+replay-accepted-requires : tie.Need-replay-accepted-requires
+replay-accepted-requires c κs =
     let n = c .before .before .before .before in
     let m = n .before .before in
     let k = m .before .before .before .before in
@@ -104,7 +104,7 @@ returns-3 c =
     let k = m .before .before .before .before in
     let u = k .before .before in
     let a = u .before .before .before .before .args in
-    called (a .table .now) (a .configuration .now) (a .log .now) (a .limit) (a .out .now) (a .choices .now) (a .work .now) _ (u .accept .last .1 .1 .0) (u .accept .result) (u .accept .ensures) (k .enum-told .given .1) (fitting m) _ _ _ _ (v .answer .ensures)
+    called (a .table .now) (a .configuration .now) (a .log .now) (a .limit) (a .out .now) (a .choices .now) (a .work .now) _ (u .accept .last .1 .1 .0) (u .accept .result) (u .accept .ensures) (k .enum-told .given .1) (fitting m) _ _ _ _ (v .replay-accepted .ensures)
 
 pub replay-counted-spec : {M : Type 1} → statement M
 replay-counted-spec =
@@ -120,8 +120,8 @@ replay-counted-spec =
     returns-2
     enum-told-2
     rule-count-requires
-    mul-answer
-    answer-requires
+    mul-replay-accepted
+    replay-accepted-requires
     same-length
     same-length-2
     same-length-3

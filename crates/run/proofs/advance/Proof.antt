@@ -6,13 +6,13 @@ use lib.ListN.{length}
 use borrow.Author.Needs.{needs}
 use Rattle.run.specs.Sides.{other}
 use Rattle.run.proofs.RefusingLaw.{roomy, runs}
-use Rattle.run.proofs.ReachedLaw.{Reached, reached-first, reached-holds, reached-more, reached-end}
+use Rattle.run.proofs.ReachedLaw.{RunReached, reached-first, reached-holds, reached-more, reached-end}
 use Rattle.run.proofs.advance.Statement.{statement}
 use Rattle.run.proofs.advance.Tie as tie
 
 abbrev Inv-loop : tie.InvT-loop
 Inv-loop table index configuration budget limit out₀ spare₀ words side₀ nodes₀ k₀ out spare side nodes k =
-    Reached table configuration budget limit out₀ spare₀ side nodes k out spare
+    RunReached table configuration budget limit out₀ spare₀ side nodes k out spare
 
 abbrev μ-loop : tie.MeasureT-loop
 μ-loop table index configuration budget limit out₀ spare₀ words side₀ nodes₀ k₀ out spare side nodes k = budget - k
@@ -60,7 +60,7 @@ next : (c : tie.After-other-side Inv-loop μ-loop) →
     let b = c .before .before .before .before .before .before .before in
     let l = b .before .before .before .loop in
     let a = b .before .before .before .before .args in
-    Reached (a .table .now) (a .configuration .now) (a .budget) (a .limit) (a .out .now) (a .spare .now) (other (l .side)) (c .before .before .verdict .given .0 .0) (l .k + 1)
+    RunReached (a .table .now) (a .configuration .now) (a .budget) (a .limit) (a .out .now) (a .spare .now) (other (l .side)) (c .before .before .verdict .given .0 .0) (l .k + 1)
     (b .step-across .last .1 .1 .1 .1 .1 .1 .0) (b .step-across .last .1 .1 .1 .1 .1 .1 .1 .0)
 next c =
     let b = c .before .before .before .before .before .before .before in

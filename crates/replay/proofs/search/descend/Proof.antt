@@ -5,7 +5,7 @@ use Prim.Native.Nat.{_+_, _≤_}
 use native.Mathlib.Omega.{arith}
 use lib.ListN.{length, take}
 use lib.Seq.{length-take-le}
-use Rattle.memory.specs.Layout.{base, Spare}
+use Rattle.memory.specs.Layout.{base, OwnFits}
 use Rattle.memory.proofs.LayoutLaw.{frame-before}
 use borrow.Author.Needs.{needs}
 use Rattle.replay.proofs.search.descend.Statement.{statement}
@@ -42,7 +42,7 @@ known-requires c κs =
     let a = s .args in (
       omega (arith, fits (b .before), b .base-at .ensures),
       s .pre .0 .2,
-      subst⁻¹ (Spare (a .room) (a .work .now)) (b .base-at .ensures) (s .pre .1 .1 (a .depth + 1) (b .before .if1 .taken)),
+      subst⁻¹ (OwnFits (a .room) (a .work .now)) (b .base-at .ensures) (s .pre .1 .1 (a .depth + 1) (b .before .if1 .taken)),
       omega (arith, long (b .before), s .pre .1 .0 .0),
     )
 
@@ -66,7 +66,7 @@ enter-requires c κs =
       omega (arith, fits (b .before), b .base-at .ensures),
       omega (arith, long (b .before), s .pre .1 .0 .1),
       s .pre .0 .2,
-      subst⁻¹ (Spare (a .room) (a .work .now)) (b .base-at .ensures) (s .pre .1 .1 (a .depth + 1) (b .before .if1 .taken)),
+      subst⁻¹ (OwnFits (a .room) (a .work .now)) (b .base-at .ensures) (s .pre .1 .1 (a .depth + 1) (b .before .if1 .taken)),
     )
 
 same-length-2 : tie.Need-same-length-2

@@ -1,4 +1,4 @@
--- `answer` meets its contract: it says and leaves what minuska's replay says.
+-- `replay_accepted` meets its contract: it says and leaves what minuska's replay says.
 use mathlib.Core.Path.{_≡_, sym, ap, _∙_}
 use Prim.Native.Nat.{ℕ, _+_, _≤_, _<_}
 use native.Mathlib.Omega.{arith}
@@ -9,8 +9,8 @@ use Rattle.words.proofs.CopyLaw.{zeros-front}
 use Rattle.replay.specs.Endings.{SetsUp}
 use Rattle.replay.proofs.EndLaw.{answer-empty, opened-room, opened-sound, opened-memory, end-within, end-room, answered}
 use borrow.Author.Needs.{needs}
-use Rattle.replay.proofs.answer.Statement.{statement}
-use Rattle.replay.proofs.answer.Tie as tie
+use Rattle.replay.proofs.replay_accepted.Statement.{statement}
+use Rattle.replay.proofs.replay_accepted.Tie as tie
 
 some : (e : tie.Else1) → 0 < length (e .before .before .before .before .args .log .now)
 some e = omega (arith, e .if1 .left)
@@ -112,8 +112,8 @@ returns-2 c =
     let p = s .pre in
     answered (a .table .now) (a .index .now) (a .rules) (a .room) (a .configuration .now) (a .log .now) (a .out .now) (a .work .now) (p .0) (p .1 .0 .0) (some e) (p .1 .1) _ (up u) (h .find .result) _ _ (h .find .ensures) (a .choices .now) _ _ _ _ (k .conclude .ensures)
 
-pub answer-spec : {M : Type 1} → statement M
-answer-spec =
+pub replay-accepted-spec : {M : Type 1} → statement M
+replay-accepted-spec =
     tie.close
     (tie.spec
     base-at-requires
