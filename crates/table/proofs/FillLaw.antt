@@ -200,8 +200,9 @@ module _ (ws : List ℤ) (at right conditions end : ℕ) (p : RuleAt ws at right
       let k = p .endIs in
       record {
         root = omega arith;
-        rightFits = omega arith;
-        conditionsFit = omega arith;
+        rightAfter = omega arith;
+        conditionsAfter = omega arith;
+        endAfter = omega arith;
         endFits = omega arith;
         short = h;
         action = let e = action-word in let g = good r (rule-read (drop at ws) (r, drop end ws) (p .read) .0) .action in omega arith;
