@@ -62,7 +62,7 @@ pub fn classify(ranges: &[i64; 32], t: i64, d: i64) -> Node
         return call(d);
     }
     if term::ground::is_ground(ranges, t, d) {
-        return Node::Plain(term::children(t, d));
+        return Node::Plain(term::plain_children(t, d));
     }
     Node::Bad
 }

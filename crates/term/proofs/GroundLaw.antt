@@ -16,9 +16,8 @@ use Rattle.minuska.proofs.Tests.{and-both, and-left, and-right}
 use Rattle.minuska.specs.Term.{Label, call, error, symbol, truth, variable, whole}
 use Rattle.minuska.specs.Word.{symbols, datumWord, okHead, tagWord}
 use Rattle.term.specs.Datum.{groundLeasts, groundMosts, groundRanges}
-use Rattle.term.specs.TermAt.{NodeWords}
-use Rattle.term.specs.TermEnd.{anyLabel, groundLabel, childrenOf, GroundNode}
-use Rattle.term.proofs.NodeLaw.{Node, node-children, children-node, no-node, count-is}
+use Rattle.term.specs.TermEnd.{groundLabel, GroundNode}
+use Rattle.term.proofs.NodeLaw.{Node, node-children, no-node, ground-count}
 
 pub record InRange (tag : ℕ) (d : ℤ) : Type 0 where
   pub low : ltZ d (getD groundLeasts tag (pos 0)) ≡ false
@@ -111,7 +110,7 @@ bit (suc (suc n)) h = absurd (let f : ⊥ = omega arith in f)
 node-good : (l : Label) (k : ℕ) (t d : ℤ) → T (okHead l k) → T (groundLabel l) → tagWord l k ≡ t → datumWord l ≡ d → GroundNode t d true
 node-good l k t d x g p q =
     let n : Node groundLabel t d k = record { label = l; okay = x; passes = g; tag = p; datum = q } in
-    record { children = node-children groundLabel t d k n ∙ ap {B = Option ℕ} some (count-is n) }
+    record { children = node-children groundLabel t d k n ∙ ap {B = Option ℕ} some (ground-count t d k n) }
 
 pub in-range : (tag : ℕ) (d : ℤ) → tag < 16 → InRange tag d → GroundNode (pos tag) d true
 in-range zero d i r =
@@ -131,9 +130,3 @@ in-range (suc (suc (suc (suc (suc (suc (suc (suc k)))))))) d i r =
     let h : n .0 < symbols = let h = n .2 in omega arith in
     let a : k ≤ 7 = omega arith in
     node-good (symbol (n .0)) k (pos (suc (suc (suc (suc (suc (suc (suc (suc k))))))))) d (and-both (ltb (n .0) symbols) (leb k 7) (lt→ltb (n .0) symbols h) (le→leb k 7 a)) tt (ap pos (eight k)) (n .1)
-
--- two words that passed are a node's
-pub ground-words : (t d : ℤ) → GroundNode t d true → NodeWords t d
-ground-words t d g =
-    let n = children-node groundLabel t d (childrenOf t d) (g .children) in
-    record { count = childrenOf t d; is = node-children anyLabel t d (childrenOf t d) (record { label = n .label; okay = n .okay; passes = tt; tag = n .tag; datum = n .datum }) }

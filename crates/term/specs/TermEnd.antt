@@ -7,7 +7,7 @@ use Prim.Native.Nat.{ℕ, zero, suc, _+_}
 use lib.IntN.{ℤ}
 use lib.ListN.{drop}
 use Rattle.minuska.specs.Basics.{_>>=_, provided}
-use Rattle.minuska.specs.Computed.Read.{readNode, childrenAt}
+use Rattle.minuska.specs.Computed.Read.{readNode, childrenAt, plainChildren}
 use Rattle.minuska.specs.Function.{functionAt}
 use Rattle.minuska.specs.Term.{Label, role, groundAt}
 use Rattle.term.specs.declared.Place.{Place}
@@ -59,6 +59,6 @@ termEndIf ground ws at = placeOf at (extent (labelTest ground) (drop at ws) 1)
 unfoldable pub groundTermsEnd : List ℤ → ℕ → ℕ → Place
 groundTermsEnd ws at k = placeOf at (extent groundLabel (drop at ws) k)
 
--- What a test of two words says: whether they are a ground term's node.
+-- What a test of two words says: whether they are a ground term's node, which is no call.
 pub record GroundNode (t d : ℤ) (passes : Bool) : Type 0 where
-  pub children : childrenIf groundLabel t d ≡ provided passes (childrenOf t d)
+  pub children : childrenIf groundLabel t d ≡ provided passes (plainChildren t d)
