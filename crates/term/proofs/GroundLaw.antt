@@ -84,7 +84,7 @@ module _ (tag : ℕ) (d : ℤ) (f : SFits w64 d) where
       let e : h .0 ≡ tag = let a = h .1 in let b = n .tag in cc in
       (subst (λ (x : ℕ). x < 16) e (h .2), subst (λ (x : ℕ). InRange x d) e (subst (InRange (h .0)) (n .datum) (h .3)))
 
-  pub high-tag : 15 < tag → GroundNode (pos tag) d false
+  pub high-tag : 16 ≤ tag → GroundNode (pos tag) d false
   high-tag h = no-ground (pos tag) d (λ m n. let r = node-range m n .0 in omega arith)
 
   pub low-datum : ltZ d (getD groundLeasts tag (pos 0)) ≡ true → GroundNode (pos tag) d false

@@ -1,6 +1,6 @@
 -- What the routines answer: a node's child count, and the place behind a term whose labels pass a test.
 use mathlib.Core.Path.{_≡_}
-use mathlib.Core.Bool.{Bool, true, false}
+use mathlib.Core.Bool.{Bool, true}
 use mathlib.Core.Option.{Option, none, some}
 use mathlib.Core.List.{List, [], _∷_}
 use Prim.Native.Nat.{ℕ, zero, suc, _+_}
@@ -19,10 +19,6 @@ anyLabel l = true
 
 abbrev pub groundLabel : Label → Bool
 groundLabel l = groundAt (role l)
-
-abbrev pub labelTest : Bool → Label → Bool
-labelTest false = anyLabel
-labelTest true = groundLabel
 
 -- the child count that two words say, if they are a node's and its label passes
 abbrev pub childrenIf : (Label → Bool) → ℤ → ℤ → Option ℕ
@@ -48,12 +44,9 @@ childrenOf t d = childrenAt t d
 unfoldable pub arityOf : ℕ → ℕ
 arityOf code = functionAt code .arity
 
--- The place behind the term that starts at a place; if `ground`, behind the ground term.
+-- The place behind the term that starts at a place.
 unfoldable pub termEnd : List ℤ → ℕ → Place
 termEnd ws at = placeOf at (extent anyLabel (drop at ws) 1)
-
-unfoldable pub termEndIf : Bool → List ℤ → ℕ → Place
-termEndIf ground ws at = placeOf at (extent (labelTest ground) (drop at ws) 1)
 
 -- The place behind so many ground terms that start at a place.
 unfoldable pub groundTermsEnd : List ℤ → ℕ → ℕ → Place
