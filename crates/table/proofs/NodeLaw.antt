@@ -12,7 +12,7 @@ use Rattle.minuska.proofs.Tests.{and-both}
 use Rattle.minuska.proofs.WordLaw.{node-read, read-node}
 use Rattle.minuska.proofs.NodeLaw.{NodeIs, node-is, variable-tag, call-tag, plain-tag, few-children}
 use Rattle.minuska.specs.Basics.{_>>=_, provided}
-use Rattle.minuska.specs.Computed.Read.{readNode, childrenAt, maxChildren, variableTag, callTag}
+use Rattle.minuska.specs.Computed.Read.{readNode, childrenAt, plainChildren, maxChildren, variableTag, callTag}
 use Rattle.minuska.specs.Function.{functions, functionAt}
 use Rattle.minuska.specs.Term.{Label, variable, call, Role, aVariable, aCall, plain, role, groundAt}
 use Rattle.minuska.specs.Word.{variables, okHead, tagWord, datumWord}
@@ -92,17 +92,17 @@ module _ (d : ℤ) (h : naturalOf d < length functions) where
   a-call = ap (λ (z : ℤ). N.Call (childrenAt (pos callTag) z)) here ∙ sym (ap (λ (z : ℤ). nodeIn (readNode (pos callTag) z)) here ∙ ap nodeIn called)
 
 -- ---- any other node is a ground term's
-pub a-plain : (t d : ℤ) → GroundNode t d true → N.Plain (childrenOf t d) ≡ nodeOf t d
+pub a-plain : (t d : ℤ) → GroundNode t d true → N.Plain (plainChildren t d) ≡ nodeOf t d
 unfolding nodeOf
 a-plain t d g = pick (readNode t d) (g .children)
   where
-    at : (r : Role) (j : ℕ) → provided (groundAt r) j ≡ some (childrenOf t d) → N.Plain (childrenOf t d) ≡ nodeAs r j
-    at (aVariable v) j e = absurd (Option·none-ne-some (childrenOf t d) e)
-    at (aCall c) j e = absurd (Option·none-ne-some (childrenOf t d) e)
-    at plain j e = ap N.Plain (sym (Option·some-injective j (childrenOf t d) e))
+    at : (r : Role) (j : ℕ) → provided (groundAt r) j ≡ some (plainChildren t d) → N.Plain (plainChildren t d) ≡ nodeAs r j
+    at (aVariable v) j e = absurd (Option·none-ne-some (plainChildren t d) e)
+    at (aCall c) j e = absurd (Option·none-ne-some (plainChildren t d) e)
+    at plain j e = ap N.Plain (sym (Option·some-injective j (plainChildren t d) e))
 
-    pick : (o : Option (Label × ℕ)) → (o >>= λ n. provided (groundLabel (n .0)) (n .1)) ≡ some (childrenOf t d) → N.Plain (childrenOf t d) ≡ nodeIn o
-    pick none e = absurd (Option·none-ne-some (childrenOf t d) e)
+    pick : (o : Option (Label × ℕ)) → (o >>= λ n. provided (groundLabel (n .0)) (n .1)) ≡ some (plainChildren t d) → N.Plain (plainChildren t d) ≡ nodeIn o
+    pick none e = absurd (Option·none-ne-some (plainChildren t d) e)
     pick (some n) e = at (role (n .0)) (n .1) e
 
 pub no-plain : (t d : ℤ) → GroundNode t d false → (t ≡ pos variableTag → ⊥) → (t ≡ pos callTag → ⊥) → N.Bad ≡ nodeOf t d

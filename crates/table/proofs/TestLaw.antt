@@ -205,5 +205,5 @@ flag-after (node a cs ss) x seen v h =
     swapped false false c = refl
 
 -- the flags after a left, all of them unset before, are its variables
-pub knows-left : (left : Forest) → T (ok left) → Knows (marks left (replicate 16 false)) left
-knows-left left x = record { flag = λ v h. flag-after left x (replicate 16 false) v h ∙ (ap (λ (b : Bool). occurs v left || b) (getD-replicate 16 v false false h) ∙ or-false (occurs v left)) }
+pub knows-left : (left : Forest) → T (ok left) → Knows (marks left (replicate variables false)) left
+knows-left left x = record { flag = λ v h. flag-after left x (replicate variables false) v h ∙ (ap (λ (b : Bool). occurs v left || b) (getD-replicate variables v false false h) ∙ or-false (occurs v left)) }

@@ -3,6 +3,8 @@ use crate::node::Node;
 use crate::node::Turn;
 use crate::node::classify;
 use term::Place;
+use term::VARIABLES;
+use term::ground::Ranges;
 ghost use mathlib.Core.Path.{_≡_};
 ghost use Prim.Native.Nat.{_≤_};
 ghost use lib.ListN.{length};
@@ -12,7 +14,7 @@ ghost use Rattle.table.specs.declared.node.Level.the-variants.{Expressio
 ghost use Rattle.table.specs.Reach.{EndIs, TurnIs};
 
 // One expression's first node, with the ground terms below it. A call's arguments are expressions still to come.
-fn expression_turn(table: &[i64], i: usize, seen: &[bool; 16], ranges: &[i64; 32]) -> Turn
+fn expression_turn(table: &[i64], i: usize, seen: &[bool; VARIABLES], ranges: &Ranges) -> Turn
     requires { ⌜ (i ≤ length (now table)) × (now ranges ≡ groundRanges) ⌝ }
     ensures { λ r. ⌜ TurnIs (now (table .entry)) Expression i (now (seen .entry)) (now (seen .entry)) r ⌝ }
 {
@@ -45,8 +47,8 @@ pub fn expressions_end(
     table: &[i64],
     at: usize,
     count: usize,
-    seen: &[bool; 16],
-    ranges: &[i64; 32],
+    seen: &[bool; VARIABLES],
+    ranges: &Ranges,
 ) -> Place
     requires { ⌜ (at ≤ length (now table)) × (count ≤ maxChildren) × (now ranges ≡ groundRanges) ⌝ }
     ensures { λ r. ⌜ EndIs (now (table .entry)) Expression at count (now (seen .entry)) (now (seen .entry)) r ⌝ }

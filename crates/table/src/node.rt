@@ -1,5 +1,7 @@
 // One node of a table's terms: what its two words are, and whether a variable may stand where it stands.
 use crate::number::natural;
+use term::VARIABLES;
+use term::ground::Ranges;
 ghost use mathlib.Core.Path.{_≡_};
 ghost use lib.IntN.{pos};
 ghost use Prim.Native.Nat.{_<_};
@@ -35,7 +37,7 @@ fn variable(d: i64) -> Node
     ensures { λ r. ⌜ r ≡ nodeOf (pos variableTag) d ⌝ }
 {
     let v = natural(d);
-    if term::VARIABLES <= v {
+    if VARIABLES <= v {
         return Node::Bad;
     }
     Node::Variable(v)
@@ -51,7 +53,7 @@ fn call(d: i64) -> Node
 }
 
 // What two words are.
-pub fn classify(ranges: &[i64; 32], t: i64, d: i64) -> Node
+pub fn classify(ranges: &Ranges, t: i64, d: i64) -> Node
     requires { ⌜ now ranges ≡ groundRanges ⌝ }
     ensures { λ r. ⌜ r ≡ nodeOf t d ⌝ }
 {
@@ -62,13 +64,13 @@ pub fn classify(ranges: &[i64; 32], t: i64, d: i64) -> Node
         return call(d);
     }
     if term::ground::is_ground(ranges, t, d) {
-        return Node::Plain(term::children(t, d));
+        return Node::Plain(term::plain_children(t, d));
     }
     Node::Bad
 }
 
 // A left's variable is flagged; a right's must have been.
-pub fn takes_variable(left: bool, v: usize, seen: &mut [bool; term::VARIABLES]) -> bool
+pub fn takes_variable(left: bool, v: usize, seen: &mut [bool; VARIABLES]) -> bool
     requires { ⌜ v < variables ⌝ }
     ensures { λ r. ⌜ TakesVariable (sideLevel left) v (now (seen .entry)) (now (seen .exit)) r ⌝ }
 {

@@ -5,6 +5,8 @@ use crate::node::Turn;
 use crate::node::classify;
 use crate::node::takes_variable;
 use term::Place;
+use term::VARIABLES;
+use term::ground::Ranges;
 ghost use mathlib.Core.Path.{_≡_};
 ghost use Prim.Native.Nat.{_≤_};
 ghost use lib.ListN.{length};
@@ -13,7 +15,13 @@ ghost use Rattle.table.specs.Node.{sideLevel};
 ghost use Rattle.table.specs.Reach.{EndIs, TurnIs};
 
 // One side's first node, with the arguments below it if it is a call. A symbol's children are still to come.
-fn side_turn(left: bool, table: &[i64], i: usize, seen: &mut [bool; 16], ranges: &[i64; 32]) -> Turn
+fn side_turn(
+    left: bool,
+    table: &[i64],
+    i: usize,
+    seen: &mut [bool; VARIABLES],
+    ranges: &Ranges,
+) -> Turn
     requires { ⌜ (i ≤ length (now table)) × (now ranges ≡ groundRanges) ⌝ }
     ensures { λ r. ⌜ TurnIs (now (table .entry)) (sideLevel left) i (now (seen .entry)) (now (seen .exit)) r ⌝ }
 {
@@ -49,8 +57,8 @@ pub fn side_end(
     left: bool,
     table: &[i64],
     at: usize,
-    seen: &mut [bool; 16],
-    ranges: &[i64; 32],
+    seen: &mut [bool; VARIABLES],
+    ranges: &Ranges,
 ) -> Place
     requires { ⌜ (at ≤ length (now table)) × (now ranges ≡ groundRanges) ⌝ }
     ensures { λ r. ⌜ EndIs (now (table .entry)) (sideLevel left) at 1 (now (seen .entry)) (now (seen .exit)) r ⌝ }

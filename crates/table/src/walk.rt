@@ -3,6 +3,8 @@ use crate::expression::expressions_end;
 use crate::node::Level;
 use crate::side::side_end;
 use term::Place;
+use term::VARIABLES;
+use term::ground::Ranges;
 use term::ground::ground_terms;
 ghost use mathlib.Core.Path.{_≡_};
 ghost use Prim.Native.Nat.{_≤_};
@@ -16,8 +18,8 @@ fn term_end(
     table: &[i64],
     at: usize,
     kind: Level,
-    seen: &mut [bool; 16],
-    ranges: &[i64; 32],
+    seen: &mut [bool; VARIABLES],
+    ranges: &Ranges,
 ) -> Place
     requires { ⌜ (at ≤ length (now table)) × (now ranges ≡ groundRanges) ⌝ }
     ensures { λ r. ⌜ EndIs (now (table .entry)) kind at 1 (now (seen .entry)) (now (seen .exit)) r ⌝ }
@@ -35,8 +37,8 @@ pub fn part_end(
     table: &[i64],
     at: usize,
     kind: Level,
-    seen: &mut [bool; 16],
-    ranges: &[i64; 32],
+    seen: &mut [bool; VARIABLES],
+    ranges: &Ranges,
 ) -> Place
     requires { ⌜ now ranges ≡ groundRanges ⌝ }
     ensures { λ r. ⌜ PartContract (now (table .entry)) at kind (now (seen .entry)) (now (seen .exit)) r ⌝ }

@@ -1,6 +1,5 @@
 -- The configuration check, from the place where a ground term at the start ends; and the part that is a subterm, from the check.
 use mathlib.Core.Path.{_≡_, sym, _∙_, ap}
-use mathlib.Core.Bool.{true}
 use mathlib.Core.List.{List, []}
 use Prim.Native.Nat.{ℕ, _+_, _-_, _*_, _/_, _≤_, _<_}
 use native.Mathlib.Nat.{zero-add}
@@ -22,26 +21,26 @@ use Rattle.minuska.specs.declared.Check.{Check}
 use Rattle.minuska.specs.declared.Check.the-variants.{Good, Refused}
 use Rattle.minuska.specs.declared.Refusal.{Refusal}
 use Rattle.minuska.specs.declared.Refusal.the-variants.{BadConfiguration}
-use Rattle.term.specs.TermEnd.{groundLabel, termEndIf}
+use Rattle.term.specs.TermEnd.{groundLabel, groundTermsEnd}
 use Rattle.term.specs.declared.Place.the-variants.{At, Nowhere}
 use Rattle.term.proofs.ExtentLaw.{ends-stands, stands-ends}
-use Rattle.term.proofs.TermEndLaw.{term-end-if-is}
+use Rattle.term.proofs.TermEndLaw.{ground-terms-are}
 
 module _ (ws : List ℤ) where
   -- a configuration is short, and ends where its words end
   configuration-short : (g : Term) → IsConfiguration ws g → length ws ≤ 65536
   configuration-short g c = let l = configuration-length ws g c in let f = configuration-good g (c .accepted) .few in omega arith
 
-  configuration-ends : (g : Term) → IsConfiguration ws g → termEndIf true ws 0 ≡ At (length ws)
+  configuration-ends : (g : Term) → IsConfiguration ws g → groundTermsEnd ws 0 1 ≡ At (length ws)
   configuration-ends g c =
       let p = configuration-good g (c .accepted) in
       let e : length (encode (single g)) ≡ length ws = ap length (c .words) in
       let s : Stands ws 0 (encode (single g)) = record { words = ap (take (length (encode (single g)))) (sym (c .words)) ∙ (take-length (encode (single g))); within = omega arith } in
-      term-end-if-is true ws 0 ∙ (stands-ends groundLabel ws 0 g (p .good) (p .ground) s ∙ ap At (zero-add (length (encode (single g))) ∙ e))
+      ground-terms-are ws 0 1 ∙ (stands-ends groundLabel ws 0 g (p .good) (p .ground) s ∙ ap At (zero-add (length (encode (single g))) ∙ e))
 
-  pub accepted : (e : ℕ) → length ws ≤ 65536 → termEndIf true ws 0 ≡ At e → e ≡ length ws → CheckConfigurationContract ws Good
+  pub accepted : (e : ℕ) → length ws ≤ 65536 → groundTermsEnd ws 0 1 ≡ At e → e ≡ length ws → CheckConfigurationContract ws Good
   accepted e h p q =
-      let t = ends-stands groundLabel ws 0 e (sym (term-end-if-is true ws 0) ∙ p) in
+      let t = ends-stands groundLabel ws 0 e (sym (ground-terms-are ws 0 1) ∙ p) in
       let xs = encode (single (t .term)) in
       let l = term-length (t .term) in
       let n : length xs ≡ length ws = let x = t .ends in omega arith in
@@ -55,10 +54,10 @@ module _ (ws : List ℤ) where
   pub refused-long : 65536 < length ws → CheckConfigurationContract ws (Refused BadConfiguration)
   refused-long h = refused (λ g c. let k = configuration-short g c in omega arith)
 
-  pub refused-nowhere : termEndIf true ws 0 ≡ Nowhere → CheckConfigurationContract ws (Refused BadConfiguration)
+  pub refused-nowhere : groundTermsEnd ws 0 1 ≡ Nowhere → CheckConfigurationContract ws (Refused BadConfiguration)
   refused-nowhere p = refused (λ g c. let q = configuration-ends g c in let z : _≡_ {A = ℕ} 0 1 = cc in omega arith)
 
-  pub refused-elsewhere : (e : ℕ) → termEndIf true ws 0 ≡ At e → (e ≡ length ws → ⊥) → CheckConfigurationContract ws (Refused BadConfiguration)
+  pub refused-elsewhere : (e : ℕ) → groundTermsEnd ws 0 1 ≡ At e → (e ≡ length ws → ⊥) → CheckConfigurationContract ws (Refused BadConfiguration)
   refused-elsewhere e p f = refused (λ g c. let q = configuration-ends g c in f (let z : e ≡ length ws = cc in z))
 
 -- ---- the part that is a subterm

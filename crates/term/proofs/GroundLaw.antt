@@ -2,9 +2,9 @@
 use mathlib.Core.Path.{_≡_, refl, sym, _∙_, ap, subst}
 use mathlib.Core.Bool.{Bool, true, false, cond, true≢false}
 use mathlib.Core.Option.{Option, some}
-use Prim.Native.Nat.{ℕ, zero, suc, _+_, _≤_, _<_, _^_}
+use Prim.Native.Nat.{ℕ, zero, suc, _+_, _-_, _≤_, _<_, _^_}
 use native.Mathlib.Omega.{arith}
-use lib.Dec.{T, leb, ltb, ltb→lt, lt→ltb, leb→le, le→leb, lit<}
+use lib.Dec.{T, leb, ltb, ltb→lt, lt→ltb, le→leb, lit<}
 use lib.IntN.{ℤ, pos, negsuc, pos-ne-negsuc}
 use lib.ListN.{getD, getD-replicate, List·getD-append}
 use lib.Seq.{getD-append-add}
@@ -12,25 +12,25 @@ use lib.Signed.{ltZ, mag}
 use mir.Syntax.{w64}
 use mir.Val.{SFits}
 use borrow.Author.Tests.{ltb-true, ltb-false, le-ltb}
-use Rattle.minuska.proofs.Tests.{and-both, and-left, and-right}
+use Rattle.minuska.proofs.NodeLaw.{few-children}
+use Rattle.minuska.proofs.Tests.{and-both, and-left}
 use Rattle.minuska.specs.Term.{Label, call, error, symbol, truth, variable, whole}
 use Rattle.minuska.specs.Word.{symbols, datumWord, okHead, tagWord}
-use Rattle.term.specs.Datum.{groundLeasts, groundMosts, groundRanges}
-use Rattle.term.specs.TermAt.{NodeWords}
-use Rattle.term.specs.TermEnd.{anyLabel, groundLabel, childrenOf, GroundNode}
-use Rattle.term.proofs.NodeLaw.{Node, node-children, children-node, no-node, count-is}
+use Rattle.term.specs.Datum.{tags, groundLeasts, groundMosts, groundRanges}
+use Rattle.term.specs.TermEnd.{groundLabel, GroundNode}
+use Rattle.term.proofs.NodeLaw.{Node, node-children, no-node, ground-count}
 
 pub record InRange (tag : ℕ) (d : ℤ) : Type 0 where
   pub low : ltZ d (getD groundLeasts tag (pos 0)) ≡ false
   pub high : ltZ (getD groundMosts tag (pos 0)) d ≡ false
 
 -- ---- both lists stand in one
-pub least-at : (tag : ℕ) → tag < 16 → getD groundRanges tag (pos 0) ≡ getD groundLeasts tag (pos 0)
+pub least-at : (tag : ℕ) → tag < tags → getD groundRanges tag (pos 0) ≡ getD groundLeasts tag (pos 0)
 least-at tag h = List·getD-append groundLeasts groundMosts (pos 0) tag h
 
-pub most-at : (tag : ℕ) → getD groundRanges (tag + 16) (pos 0) ≡ getD groundMosts tag (pos 0)
+pub most-at : (tag : ℕ) → getD groundRanges (tag + tags) (pos 0) ≡ getD groundMosts tag (pos 0)
 most-at tag =
-    let e : tag + 16 ≡ 16 + tag = omega arith in
+    let e : tag + tags ≡ tags + tag = omega arith in
     ap (λ (n : ℕ). getD groundRanges n (pos 0)) e ∙ getD-append-add groundLeasts groundMosts tag (pos 0)
 
 -- a symbol's entries
@@ -41,8 +41,8 @@ module _ (k : ℕ) (h : k < 8) where
   symbol-least : getD groundLeasts (suc (suc (suc (suc (suc (suc (suc (suc k)))))))) (pos 0) ≡ pos 0
   symbol-least = getD-replicate 8 k (pos 0) (pos 0) h
 
-  symbol-most : getD groundMosts (suc (suc (suc (suc (suc (suc (suc (suc k)))))))) (pos 0) ≡ pos 4095
-  symbol-most = getD-replicate 8 k (pos 4095) (pos 0) h
+  symbol-most : getD groundMosts (suc (suc (suc (suc (suc (suc (suc (suc k)))))))) (pos 0) ≡ pos (symbols - 1)
+  symbol-most = getD-replicate 8 k (pos (symbols - 1)) (pos 0) h
 
 -- ---- a node's datum is in range
 number-range : (n most : ℕ) → n ≤ most → (ltb n 0 ≡ false) × (ltb most n ≡ false)
@@ -54,10 +54,10 @@ whole-range (negsuc n) h = record { low = le-ltb 9223372036854775807 n (omega ar
 
 symbol-range : (k s : ℕ) → k < 8 → s < symbols → InRange (suc (suc (suc (suc (suc (suc (suc (suc k)))))))) (pos s)
 symbol-range k s h i =
-    let r = number-range s 4095 (omega arith) in
+    let r = number-range s (symbols - 1) (omega arith) in
     record { low = ap (ltZ (pos s)) (symbol-least k h) ∙ r .0; high = ap (λ (z : ℤ). ltZ z (pos s)) (symbol-most k h) ∙ r .1 }
 
-label-range : (l : Label) (k : ℕ) → T (okHead l k) → T (groundLabel l) → SFits w64 (datumWord l) → (tag : ℕ) × (tagWord l k ≡ pos tag) × (tag < 16) × InRange tag (datumWord l)
+label-range : (l : Label) (k : ℕ) → T (okHead l k) → T (groundLabel l) → SFits w64 (datumWord l) → (tag : ℕ) × (tagWord l k ≡ pos tag) × (tag < tags) × InRange tag (datumWord l)
 label-range error k x g f = (0, refl, lit< tt, record { low = refl; high = refl })
 label-range (truth true) k x g f = (1, refl, lit< tt, record { low = refl; high = refl })
 label-range (truth false) k x g f = (1, refl, lit< tt, record { low = refl; high = refl })
@@ -66,7 +66,7 @@ label-range (variable v) k x g f = absurd g
 label-range (call c) k x g f = absurd g
 label-range (symbol s) k x g f =
     let h = ltb→lt s symbols (and-left (ltb s symbols) (leb k 7) x) in
-    let i = leb→le k 7 (and-right (ltb s symbols) (leb k 7) x) in
+    let i = few-children (symbol s) k x in
     let j : k < 8 = omega arith in
     (suc (suc (suc (suc (suc (suc (suc (suc k))))))), ap pos (eight k), omega arith, symbol-range k s j h)
 
@@ -79,13 +79,13 @@ low-tag (pos t) d h = absurd (let e = ltb-true t 0 h in let f : ⊥ = omega arit
 low-tag (negsuc t) d h = no-ground (negsuc t) d (λ m n. pos-ne-negsuc _ t (n .tag))
 
 module _ (tag : ℕ) (d : ℤ) (f : SFits w64 d) where
-  node-range : (m : ℕ) → Node groundLabel (pos tag) d m → (tag < 16) × InRange tag d
+  node-range : (m : ℕ) → Node groundLabel (pos tag) d m → (tag < tags) × InRange tag d
   node-range m n =
       let h = label-range (n .label) m (n .okay) (n .passes) (subst (SFits w64) (sym (n .datum)) f) in
       let e : h .0 ≡ tag = let a = h .1 in let b = n .tag in cc in
-      (subst (λ (x : ℕ). x < 16) e (h .2), subst (λ (x : ℕ). InRange x d) e (subst (InRange (h .0)) (n .datum) (h .3)))
+      (subst (λ (x : ℕ). x < tags) e (h .2), subst (λ (x : ℕ). InRange x d) e (subst (InRange (h .0)) (n .datum) (h .3)))
 
-  pub high-tag : 15 < tag → GroundNode (pos tag) d false
+  pub high-tag : tags ≤ tag → GroundNode (pos tag) d false
   high-tag h = no-ground (pos tag) d (λ m n. let r = node-range m n .0 in omega arith)
 
   pub low-datum : ltZ d (getD groundLeasts tag (pos 0)) ≡ true → GroundNode (pos tag) d false
@@ -111,9 +111,9 @@ bit (suc (suc n)) h = absurd (let f : ⊥ = omega arith in f)
 node-good : (l : Label) (k : ℕ) (t d : ℤ) → T (okHead l k) → T (groundLabel l) → tagWord l k ≡ t → datumWord l ≡ d → GroundNode t d true
 node-good l k t d x g p q =
     let n : Node groundLabel t d k = record { label = l; okay = x; passes = g; tag = p; datum = q } in
-    record { children = node-children groundLabel t d k n ∙ ap {B = Option ℕ} some (count-is n) }
+    record { children = node-children groundLabel t d k n ∙ ap {B = Option ℕ} some (ground-count t d k n) }
 
-pub in-range : (tag : ℕ) (d : ℤ) → tag < 16 → InRange tag d → GroundNode (pos tag) d true
+pub in-range : (tag : ℕ) (d : ℤ) → tag < tags → InRange tag d → GroundNode (pos tag) d true
 in-range zero d i r =
     let n = number d 0 (r .low) (r .high) in
     let e : 0 ≡ n .0 = let h = n .2 in omega arith in
@@ -127,13 +127,7 @@ in-range (suc (suc (suc (suc (suc (suc zero)))))) d i r = absurd (nothing d (r .
 in-range (suc (suc (suc (suc (suc (suc (suc zero))))))) d i r = absurd (nothing d (r .low) (r .high))
 in-range (suc (suc (suc (suc (suc (suc (suc (suc k)))))))) d i r =
     let j : k < 8 = omega arith in
-    let n = number d 4095 (ap (ltZ d) (sym (symbol-least k j)) ∙ r .low) (ap (λ (z : ℤ). ltZ z d) (sym (symbol-most k j)) ∙ r .high) in
+    let n = number d (symbols - 1) (ap (ltZ d) (sym (symbol-least k j)) ∙ r .low) (ap (λ (z : ℤ). ltZ z d) (sym (symbol-most k j)) ∙ r .high) in
     let h : n .0 < symbols = let h = n .2 in omega arith in
     let a : k ≤ 7 = omega arith in
     node-good (symbol (n .0)) k (pos (suc (suc (suc (suc (suc (suc (suc (suc k))))))))) d (and-both (ltb (n .0) symbols) (leb k 7) (lt→ltb (n .0) symbols h) (le→leb k 7 a)) tt (ap pos (eight k)) (n .1)
-
--- two words that passed are a node's
-pub ground-words : (t d : ℤ) → GroundNode t d true → NodeWords t d
-ground-words t d g =
-    let n = children-node groundLabel t d (childrenOf t d) (g .children) in
-    record { count = childrenOf t d; is = node-children anyLabel t d (childrenOf t d) (record { label = n .label; okay = n .okay; passes = tt; tag = n .tag; datum = n .datum }) }

@@ -13,7 +13,7 @@ use lib.Seq.{drop-cons}
 use Rattle.minuska.proofs.Tests.{came}
 use Rattle.minuska.specs.Basics.{_>>=_}
 use Rattle.minuska.specs.Term.{Label}
-use Rattle.term.specs.TermEnd.{anyLabel, groundLabel, groundTermsEnd, labelTest, childrenIf, extent, placeOf, termEnd, termEndIf}
+use Rattle.term.specs.TermEnd.{anyLabel, groundLabel, groundTermsEnd, childrenIf, extent, placeOf, termEnd}
 use Rattle.term.specs.declared.Place.the-variants.{At, Nowhere}
 
 -- ---- the shut names, opened
@@ -24,11 +24,6 @@ term-end-is ws at = refl
 pub ground-terms-are : (ws : List ℤ) (at k : ℕ) → groundTermsEnd ws at k ≡ placeOf at (extent groundLabel (drop at ws) k)
 unfolding groundTermsEnd
 ground-terms-are ws at k = refl
-
-module _ (ground : Bool) where
-  pub term-end-if-is : (ws : List ℤ) (at : ℕ) → termEndIf ground ws at ≡ placeOf at (extent (labelTest ground) (drop at ws) 1)
-  unfolding termEndIf
-  term-end-if-is ws at = refl
 
 -- ---- an answer, and what it came from
 pub place-some : (at e : ℕ) (o : Option ℕ) → placeOf at o ≡ At e → (m : ℕ) × (o ≡ some m) × (at + m ≡ e)

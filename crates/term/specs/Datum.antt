@@ -1,9 +1,13 @@
 -- The column "datum" of a ground term's nodes, by tag: the least, then the most. The range of a tag that it has none of is empty.
 use mathlib.Core.List.{List, _∷_, _++_}
-use Prim.Native.Nat.{_-_}
+use Prim.Native.Nat.{ℕ, _-_}
 use lib.IntN.{ℤ, pos, negsuc}
 use lib.ListN.{replicate}
 use Rattle.minuska.specs.Word.{symbols}
+
+-- how many tags there are, those of no node too
+abbrev pub tags : ℕ
+tags = 16
 
 -- "0", "0 false, 1 true", any word, none, "0 to 4,095"
 abbrev pub groundLeasts : List ℤ

@@ -1,13 +1,13 @@
 -- What the routines answer: a node's child count, and the place behind a term whose labels pass a test.
 use mathlib.Core.Path.{_≡_}
-use mathlib.Core.Bool.{Bool, true, false}
+use mathlib.Core.Bool.{Bool, true}
 use mathlib.Core.Option.{Option, none, some}
 use mathlib.Core.List.{List, [], _∷_}
 use Prim.Native.Nat.{ℕ, zero, suc, _+_}
 use lib.IntN.{ℤ}
 use lib.ListN.{drop}
 use Rattle.minuska.specs.Basics.{_>>=_, provided}
-use Rattle.minuska.specs.Computed.Read.{readNode, childrenAt}
+use Rattle.minuska.specs.Computed.Read.{readNode, childrenAt, plainChildren}
 use Rattle.minuska.specs.Function.{functionAt}
 use Rattle.minuska.specs.Term.{Label, role, groundAt}
 use Rattle.term.specs.declared.Place.{Place}
@@ -19,10 +19,6 @@ anyLabel l = true
 
 abbrev pub groundLabel : Label → Bool
 groundLabel l = groundAt (role l)
-
-abbrev pub labelTest : Bool → Label → Bool
-labelTest false = anyLabel
-labelTest true = groundLabel
 
 -- the child count that two words say, if they are a node's and its label passes
 abbrev pub childrenIf : (Label → Bool) → ℤ → ℤ → Option ℕ
@@ -48,17 +44,14 @@ childrenOf t d = childrenAt t d
 unfoldable pub arityOf : ℕ → ℕ
 arityOf code = functionAt code .arity
 
--- The place behind the term that starts at a place; if `ground`, behind the ground term.
+-- The place behind the term that starts at a place.
 unfoldable pub termEnd : List ℤ → ℕ → Place
 termEnd ws at = placeOf at (extent anyLabel (drop at ws) 1)
-
-unfoldable pub termEndIf : Bool → List ℤ → ℕ → Place
-termEndIf ground ws at = placeOf at (extent (labelTest ground) (drop at ws) 1)
 
 -- The place behind so many ground terms that start at a place.
 unfoldable pub groundTermsEnd : List ℤ → ℕ → ℕ → Place
 groundTermsEnd ws at k = placeOf at (extent groundLabel (drop at ws) k)
 
--- What a test of two words says: whether they are a ground term's node.
+-- What a test of two words says: whether they are a ground term's node, which is no call.
 pub record GroundNode (t d : ℤ) (passes : Bool) : Type 0 where
-  pub children : childrenIf groundLabel t d ≡ provided passes (childrenOf t d)
+  pub children : childrenIf groundLabel t d ≡ provided passes (plainChildren t d)

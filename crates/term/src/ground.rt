@@ -21,9 +21,14 @@ const LEAST_SYMBOL: i64 = 0;
 
 const MOST_SYMBOL: i64 = SYMBOLS - 1;
 
-// The range of a ground term's datum by tag: sixteen times the least, then sixteen times the most. A tag that it has none of has an empty range.
+// How many tags there are, those of no node too.
+const TAGS: usize = 16;
+
+// The range of a ground term's datum by tag: the least of each, then the most of each. A tag that it has none of has an empty range.
 // The walks are lent this list, so that it is laid out once and not at every node.
-pub const RANGES: [i64; 32] = [
+pub type Ranges = [i64; 2 * TAGS];
+
+pub const RANGES: Ranges = [
     0,
     0,
     -9223372036854775808,
@@ -59,7 +64,7 @@ pub const RANGES: [i64; 32] = [
 ];
 
 // Whether two words are a node of a ground term.
-pub fn is_ground(ranges: &[i64; 32], t: i64, d: i64) -> bool
+pub fn is_ground(ranges: &Ranges, t: i64, d: i64) -> bool
     requires { ⌜ now ranges ≡ groundRanges ⌝ }
     ensures { λ r. ⌜ GroundNode t d r ⌝ }
 {
@@ -67,20 +72,20 @@ pub fn is_ground(ranges: &[i64; 32], t: i64, d: i64) -> bool
         return false;
     }
     let tag = t as usize;
-    if 15 < tag {
+    if TAGS <= tag {
         return false;
     }
     if d < ranges[tag] {
         return false;
     }
-    if ranges[tag + 16] < d {
+    if ranges[tag + TAGS] < d {
         return false;
     }
     true
 }
 
 // The place behind so many ground terms that start at a place: `k` are still to come.
-pub fn ground_terms(s: &[i64], at: usize, count: usize, ranges: &[i64; 32]) -> Place
+pub fn ground_terms(s: &[i64], at: usize, count: usize, ranges: &Ranges) -> Place
     requires { ⌜ (at ≤ length (now s)) × (count ≤ maxChildren) × (now ranges ≡ groundRanges) ⌝ }
     ensures { λ r. ⌜ r ≡ groundTermsEnd (now (s .entry)) at count ⌝ }
 {

@@ -55,9 +55,12 @@ pub fn arity(code: usize) -> usize
     ensures { λ r. ⌜ r ≡ arityOf code ⌝ }
 {
     match code {
-        0 | 1 => 0,
-        2 | 6 | 7 => 1,
-        14 => 3,
+        0 => 0, // bool.true
+        1 => 0, // bool.false
+        2 => 1, // bool.neg
+        6 => 1, // bool.is
+        7 => 1, // z.is
+        14 => 3, // z.share
         _ => 2,
     }
 }
@@ -74,7 +77,7 @@ pub fn children(t: i64, d: i64) -> usize
 }
 
 // The same of a node that is no call, which is not asked here: the walks over ground terms meet none.
-fn plain_children(t: i64, d: i64) -> usize
+pub fn plain_children(t: i64, d: i64) -> usize
     ensures { λ r. ⌜ r ≡ plainChildren t d ⌝ }
 {
     if t < SYMBOL {

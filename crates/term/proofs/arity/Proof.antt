@@ -1,13 +1,15 @@
--- `arity` meets its contract: each group of codes has the arity of its functions.
-use mathlib.Core.Path.{_≡_, subst}
+-- `arity` meets its contract: a code with a row of its own, and any other, has the arity of its function.
+use mathlib.Core.Path.{_≡_}
 use mathlib.Core.Bool.{Bool, true, _&&_, _||_}
 use mathlib.Core.Logic.{⊎-elim}
 use Prim.Native.Nat.{ℕ, zero, suc, _≤_, _<_}
 use native.Mathlib.Nat.{eq-or-lt-of-le}
 use native.Mathlib.Omega.{arith}
-use borrow.Author.Tests.{le-ltb}
-use lib.Dec.{T, eqb, ltb, eqb→eq}
+use borrow.Author.Tests.{ne-eqb}
+use lib.Dec.{T, eqb, eqb→eq}
+use lib.ListN.{length}
 use Rattle.minuska.proofs.Tests.{and-left, and-right}
+use Rattle.minuska.specs.Function.{functions}
 use Rattle.term.specs.TermEnd.{arityOf}
 use Rattle.term.proofs.arity.Statement.{statement}
 use Rattle.term.proofs.arity.Tie as tie
@@ -25,38 +27,45 @@ at p (suc n) t i h = ⊎-elim (λ e. rw e (and-left (p n) (below p n) t)) (λ l.
     last : (i n : ℕ) → i < suc n → i ≤ n
     last i n h = omega arith
 
--- the functions from a code up to another have this arity
-group : ℕ → ℕ → ℕ → Bool
-group from to k = below (λ n. ltb n from || eqb k (arityOf n)) to
+-- a code without a row takes two arguments
+rowOr : ℕ → Bool → Bool
+rowOr n b = eqb n 0 || eqb n 1 || eqb n 2 || eqb n 6 || eqb n 7 || eqb n 14 || b
 
-module _ (from to k : ℕ) (t : T (group from to k)) where
-  in-group : (n : ℕ) → from ≤ n → n < to → k ≡ arityOf n
-  unfolding group
-  in-group n h i = eqb→eq k (arityOf n) (subst (λ (b : Bool). T (b || eqb k (arityOf n))) (le-ltb n from h) (at (λ n. ltb n from || eqb k (arityOf n)) to t n i))
+others : (n : ℕ) → n < length functions → (n ≡ 0 → ⊥) → (n ≡ 1 → ⊥) → (n ≡ 2 → ⊥) → (n ≡ 6 → ⊥) → (n ≡ 7 → ⊥) → (n ≡ 14 → ⊥) → 2 ≡ arityOf n
+unfolding below rowOr arityOf
+others n h a b c d e f =
+    eqb→eq 2 (arityOf n)
+    (rw (ne-eqb n 0 a, ne-eqb n 1 b, ne-eqb n 2 c, ne-eqb n 6 d, ne-eqb n 7 e, ne-eqb n 14 f) at
+    (at (λ m. rowOr m (eqb 2 (arityOf m))) (length functions) tt n h))
 
 returns : tie.Need-returns
 unfolding arityOf
-returns c = rw (c .match .keys2)
+returns c = rw (c .match .keys1)
 
 returns-2 : tie.Need-returns-2
-unfolding below group arityOf
-returns-2 c = in-group 0 2 0 tt _ (omega arith) (c .if1 .taken)
+unfolding arityOf
+returns-2 c = rw (c .match .keys2)
 
 returns-3 : tie.Need-returns-3
-unfolding below group arityOf
-returns-3 c = in-group 3 6 2 tt _ (omega arith) (c .if2 .taken)
+unfolding arityOf
+returns-3 c = rw (c .match .keys3)
 
 returns-4 : tie.Need-returns-4
-unfolding below group arityOf
-returns-4 c = in-group 8 14 2 tt _ (c .if3 .left) (omega arith)
+unfolding arityOf
+returns-4 c = rw (c .match .keys4)
 
 returns-5 : tie.Need-returns-5
 unfolding arityOf
-returns-5 c = rw (c .match .keys1)
+returns-5 c = rw (c .match .keys5)
 
 returns-6 : tie.Need-returns-6
-unfolding below group arityOf
-returns-6 c = in-group 6 8 1 tt _ (c .before .if2 .left) (c .if3 .taken)
+unfolding arityOf
+returns-6 c = rw (c .match .keys6)
+
+returns-7 : tie.Need-returns-7
+returns-7 c =
+    let r = c .match .rest in
+    others (c .before .args .code) (c .before .pre) (r .0 .0 .0 .0 .0 .1) (r .0 .0 .0 .0 .1) (r .0 .0 .0 .1) (r .0 .0 .1) (r .0 .1) (r .1)
 
 pub arity-spec : {M : Type 1} → statement M
-arity-spec = tie.close (tie.spec returns returns-2 returns-3 returns-4 returns-5 returns-6)
+arity-spec = tie.close (tie.spec returns returns-2 returns-3 returns-4 returns-5 returns-6 returns-7)

@@ -1,18 +1,9 @@
 -- `check_configuration` meets its contract.
-use mathlib.Core.Path.{_≡_, sym, _∙_}
-use mathlib.Core.Bool.{true}
-use mathlib.Core.List.{List}
-use lib.IntN.{ℤ}
+use mathlib.Core.Path.{sym, _∙_}
 use borrow.Author.Needs.{needs}
-use Rattle.term.specs.TermEnd.{termEndIf, groundTermsEnd}
-use Rattle.term.proofs.TermEndLaw.{term-end-if-is, ground-terms-are}
 use Rattle.term.proofs.CheckLaw.{accepted, refused-long, refused-nowhere, refused-elsewhere}
 use Rattle.term.proofs.check_configuration.Statement.{statement}
 use Rattle.term.proofs.check_configuration.Tie as tie
-
--- one ground term, from the start
-from-start : (ws : List ℤ) → termEndIf true ws 0 ≡ groundTermsEnd ws 0 1
-from-start ws = term-end-if-is true ws 0 ∙ sym (ground-terms-are ws 0 1)
 
 returns : tie.Need-returns
 returns c = refused-long (c .before .args .words .now) (c .if1 .taken)
@@ -27,18 +18,18 @@ enum-told : tie.Need-enum-told
 enum-told c = search needs
 
 returns-2 : tie.Need-returns-2
-returns-2 c = refused-nowhere (c .before .before .before .before .before .args .words .now) (from-start _ ∙ sym (c .before .before .ground-terms .ensures) ∙ c .enum-told .given .1)
+returns-2 c = refused-nowhere (c .before .before .before .before .before .args .words .now) (sym (c .before .before .ground-terms .ensures) ∙ c .enum-told .given .1)
 
 returns-3 : tie.Need-returns-3
 returns-3 c =
     let u = c .before .before in
     accepted (u .before .before .before .before .before .args .words .now) (u .e .given .0 .0) (u .before .before .before .before .if1 .left)
-    (from-start _ ∙ sym (u .before .before .ground-terms .ensures) ∙ u .e .given .1) (c .if2 .taken)
+    (sym (u .before .before .ground-terms .ensures) ∙ u .e .given .1) (c .if2 .taken)
 
 returns-4 : tie.Need-returns-4
 returns-4 c =
     let u = c .before .before in
-    refused-elsewhere (u .before .before .before .before .before .args .words .now) (u .e .given .0 .0) (from-start _ ∙ sym (u .before .before .ground-terms .ensures) ∙ u .e .given .1) (c .if2 .left)
+    refused-elsewhere (u .before .before .before .before .before .args .words .now) (u .e .given .0 .0) (sym (u .before .before .ground-terms .ensures) ∙ u .e .given .1) (c .if2 .left)
 
 pub check-configuration-spec : {M : Type 1} → statement M
 check-configuration-spec =

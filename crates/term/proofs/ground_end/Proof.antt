@@ -1,6 +1,5 @@
 -- `ground_end` meets its contract: the terms left to read end where the ground term that stands at the start ends.
 use mathlib.Core.Path.{_≡_, sym, _∙_, ap₂}
-use mathlib.Core.Bool.{true}
 use mathlib.Core.List.{List}
 use Prim.Native.Nat.{ℕ, _+_, _-_}
 use native.Mathlib.Omega.{arith}
@@ -15,23 +14,23 @@ use Rattle.minuska.specs.Bridge.Place.{Stands}
 use Rattle.minuska.specs.Computed.Read.{plainChildren}
 use Rattle.minuska.specs.Term.{Term, single, isGround}
 use Rattle.minuska.specs.Word.{encode, ok}
-use Rattle.term.specs.TermEnd.{groundLabel, extent, placeOf, termEndIf}
+use Rattle.term.specs.TermEnd.{groundLabel, extent, placeOf, groundTermsEnd}
 use Rattle.term.specs.declared.Place.the-variants.{At}
 use Rattle.term.proofs.NodeLaw.{ground-count, children-node}
-use Rattle.term.proofs.TermEndLaw.{Turn, place-done, place-turn, term-end-if-is}
+use Rattle.term.proofs.TermEndLaw.{Turn, place-done, place-turn, ground-terms-are}
 use Rattle.term.proofs.ExtentLaw.{stands-ends}
 use Rattle.term.proofs.ground_end.Statement.{statement}
 use Rattle.term.proofs.ground_end.Tie as tie
 
 abbrev Inv-loop : tie.InvT-loop
-Inv-loop s at i₀ rest₀ i rest = termEndIf true s at ≡ placeOf i (extent groundLabel (drop i s) rest)
+Inv-loop s at i₀ rest₀ i rest = groundTermsEnd s at 1 ≡ placeOf i (extent groundLabel (drop i s) rest)
 
 abbrev μ-loop : tie.MeasureT-loop
 μ-loop s at i₀ rest₀ i rest = length s - i
 
 -- the answer, by any ground term that stands at the start
-ends-at : (s : List ℤ) (at : ℕ) (t : Term) → T (ok (single t)) → T (isGround (single t)) → Stands s at (encode (single t)) → termEndIf true s at ≡ At (at + length (encode (single t)))
-ends-at s at t x g h = term-end-if-is true s at ∙ stands-ends groundLabel s at t x g h
+ends-at : (s : List ℤ) (at : ℕ) (t : Term) → T (ok (single t)) → T (isGround (single t)) → Stands s at (encode (single t)) → groundTermsEnd s at 1 ≡ At (at + length (encode (single t)))
+ends-at s at t x g h = ground-terms-are s at 1 ∙ stands-ends groundLabel s at t x g h
 
 -- the turn at the node that stands at i, by the term that is required
 turn : (c : tie.In-loop Inv-loop μ-loop) → Turn groundLabel (c .before .before .args .s .now) (c .before .loop .i) (c .before .loop .rest) (c .before .before .args .at + length (encode (single (c .before .before .pre .term))))
@@ -55,7 +54,7 @@ counted c =
     sym (c .plain-children .ensures ∙ ap₂ plainChildren (toZ-ofZ w64 (c .before .before .word .result) f ∙ c .before .before .word .ensures) (toZ-ofZ w64 (c .before .word2 .result) g ∙ c .before .word2 .ensures))
 
 loop-holds : tie.Need-loop-holds Inv-loop μ-loop
-loop-holds c = term-end-if-is true (c .args .s .now) (c .args .at)
+loop-holds c = ground-terms-are (c .args .s .now) (c .args .at) 1
 
 word-requires : tie.Need-word-requires Inv-loop μ-loop
 word-requires c κs = let r = turn c .room in omega arith

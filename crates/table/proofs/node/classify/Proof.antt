@@ -1,16 +1,13 @@
 -- `classify` meets its contract.
-use mathlib.Core.Path.{_≡_, sym, _∙_, ap, subst, subst₂}
+use mathlib.Core.Path.{_≡_, sym, _∙_, ap, subst}
 use mathlib.Core.Bool.{Bool, true, false}
 use borrow.Author.Needs.{needs}
 use lib.IntN.{ℤ, pos}
 use mir.Syntax.{w64}
 use mir.Val.{ofZ}
-use mir.Facts.{toZ-ofZ}
-use Rattle.minuska.specs.Computed.Read.{variableTag, callTag}
-use Rattle.term.proofs.GroundLaw.{ground-words}
+use Rattle.minuska.specs.Computed.Read.{plainChildren, variableTag, callTag}
 use Rattle.term.proofs.SignedLaw.{with-bits}
-use Rattle.term.specs.TermAt.{NodeWords}
-use Rattle.term.specs.TermEnd.{childrenOf, GroundNode}
+use Rattle.term.specs.TermEnd.{GroundNode}
 use Rattle.table.specs.Node.{nodeOf}
 use Rattle.table.specs.declared.node.Node.the-variants as N
 use Rattle.table.proofs.NumberLaw.{via, via₂, said₂}
@@ -43,16 +40,14 @@ tested c b e =
     let s = c .before .before .before in
     subst (GroundNode (s .args .t) (s .args .d)) e (said₂ (λ (x y : ℤ). GroundNode x y (c .is-ground .result)) (s .fits .t) (s .fits .d) (c .is-ground .ensures))
 
-children-requires : tie.Need-children-requires
-children-requires c κs =
-    let s = c .before .before .before .before in
-    subst₂ NodeWords (sym (toZ-ofZ (s .fits .t))) (sym (toZ-ofZ (s .fits .d))) (ground-words (s .args .t) (s .args .d) (tested (c .before) true (c .if3 .taken)))
+plain-children-requires : tie.Need-plain-children-requires
+plain-children-requires c κs = search needs
 
 returns-3 : tie.Need-returns-3
 returns-3 c =
     let u = c .before .before in
     let s = u .before .before .before in
-    ap N.Plain (via₂ childrenOf (s .fits .t) (s .fits .d) (c .children .ensures)) ∙ a-plain (s .args .t) (s .args .d) (tested u true (c .before .if3 .taken))
+    ap N.Plain (via₂ plainChildren (s .fits .t) (s .fits .d) (c .plain-children .ensures)) ∙ a-plain (s .args .t) (s .args .d) (tested u true (c .before .if3 .taken))
 
 returns-4 : tie.Need-returns-4
 returns-4 c =
@@ -69,6 +64,6 @@ classify-spec =
     call-requires
     returns-2
     is-ground-requires
-    children-requires
+    plain-children-requires
     returns-3
     returns-4)

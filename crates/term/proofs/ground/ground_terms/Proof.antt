@@ -12,8 +12,8 @@ use mir.Val.{SFits}
 use mir.ValLaws.{toZ-ofZ}
 use Rattle.minuska.specs.Basics.{provided}
 use Rattle.minuska.specs.Computed.Read.{plainChildren, maxChildren}
-use Rattle.term.specs.TermEnd.{groundLabel, childrenOf, childrenIf, GroundNode, extent, placeOf, groundTermsEnd}
-use Rattle.term.proofs.NodeLaw.{NodeAt, node-at, children-node, ground-count}
+use Rattle.term.specs.TermEnd.{groundLabel, childrenIf, GroundNode, extent, placeOf, groundTermsEnd}
+use Rattle.term.proofs.NodeLaw.{NodeAt, node-at}
 use Rattle.term.proofs.TermEndLaw.{ground-terms-are, place-done, place-short, place-bad, place-on}
 use Rattle.term.proofs.ground.ground_terms.Statement.{statement}
 use Rattle.term.proofs.ground.ground_terms.Tie as tie
@@ -62,12 +62,12 @@ passed false m e = absurd (true≢false e)
 room : (c : tie.After-word2 Inv-loop μ-loop) → c .before .before .before .before .loop .i + 2 ≤ length (c .before .before .before .before .before .args .s .now)
 room c = let v = c .before .before .before .before .loop .inv in omega arith
 
-moved : {a b t d : ℤ} {r : Bool} → a ≡ t → b ≡ d → GroundNode a b r → childrenIf groundLabel t d ≡ provided r (childrenOf t d)
-moved {r = r} p q g = sym (ap₂ (childrenIf groundLabel) p q) ∙ (g .children ∙ ap₂ (λ (x y : ℤ). provided r (childrenOf x y)) p q)
+moved : {a b t d : ℤ} {r : Bool} → a ≡ t → b ≡ d → GroundNode a b r → childrenIf groundLabel t d ≡ provided r (plainChildren t d)
+moved {r = r} p q g = sym (ap₂ (childrenIf groundLabel) p q) ∙ (g .children ∙ ap₂ (λ (x y : ℤ). provided r (plainChildren x y)) p q)
 
 read : (c : tie.After-is-ground Inv-loop μ-loop) →
     childrenIf groundLabel (getD (c .before .before .before .before .before .before .args .s .now) (c .before .before .before .before .before .loop .i) (pos 0)) (getD (c .before .before .before .before .before .before .args .s .now) (c .before .before .before .before .before .loop .i + 1) (pos 0)) ≡
-    provided (c .is-ground .result) (childrenOf (getD (c .before .before .before .before .before .before .args .s .now) (c .before .before .before .before .before .loop .i) (pos 0)) (getD (c .before .before .before .before .before .before .args .s .now) (c .before .before .before .before .before .loop .i + 1) (pos 0)))
+    provided (c .is-ground .result) (plainChildren (getD (c .before .before .before .before .before .before .args .s .now) (c .before .before .before .before .before .loop .i) (pos 0)) (getD (c .before .before .before .before .before .before .args .s .now) (c .before .before .before .before .before .loop .i + 1) (pos 0)))
 read c =
     let f : SFits w64 (c .before .before .word .result) = search needs in
     let h : SFits w64 (c .before .word2 .result) = search needs in
@@ -78,7 +78,7 @@ returns-2 c =
     let u = c .before in
     let s = u .before .before .before .before .before .before .args .s .now in
     let l = u .before .before .before .before .before .loop in
-    sym (l .inv .3 ∙ place-bad groundLabel s (l .i) (l .k) (room (u .before)) (u .before .before .before .before .loop-test .taken) (read u ∙ failed (u .is-ground .result) (childrenOf (getD s (l .i) (pos 0)) (getD s (l .i + 1) (pos 0))) (c .if2 .taken)))
+    sym (l .inv .3 ∙ place-bad groundLabel s (l .i) (l .k) (room (u .before)) (u .before .before .before .before .loop-test .taken) (read u ∙ failed (u .is-ground .result) (plainChildren (getD s (l .i) (pos 0)) (getD s (l .i + 1) (pos 0))) (c .if2 .taken)))
 
 sub-k : tie.Need-sub-k Inv-loop μ-loop
 sub-k c = search needs
@@ -97,10 +97,9 @@ node c =
     let y = c .before .before .before .word2 .result in
     let f : SFits w64 (c .before .before .before .before .word .result) = search needs in
     let g : SFits w64 (c .before .before .before .word2 .result) = search needs in
-    let e = read (c .before .before) ∙ passed (c .before .before .is-ground .result) (childrenOf t d) (c .before .if2 .left) in
     let q = c .plain-children .ensures ∙ ap₂ plainChildren (toZ-ofZ w64 x f ∙ c .before .before .before .before .word .ensures) (toZ-ofZ w64 y g ∙ c .before .before .before .word2 .ensures) in
     node-at groundLabel s i (c .plain-children .result)
-    (e ∙ ap {B = Option ℕ} some (ground-count t d (childrenOf t d) (children-node groundLabel t d (childrenOf t d) e) ∙ sym q))
+    (read (c .before .before) ∙ (passed (c .before .before .is-ground .result) (plainChildren t d) (c .before .if2 .left) ∙ ap {B = Option ℕ} some (sym q)))
 
 add-k : tie.Need-add-k Inv-loop μ-loop
 add-k c = let q = node c .bounded in let v = c .before .before .before .before .before .before .before .loop .inv in search needs

@@ -11,7 +11,7 @@ use lib.Signed.{ltZ}
 use mir.Syntax.{w64}
 use mir.Val.{toZ, ofZ}
 use mir.ValLaws.{toZ-ofZ}
-use Rattle.term.specs.Datum.{groundLeasts, groundMosts}
+use Rattle.term.specs.Datum.{tags, groundLeasts, groundMosts}
 use Rattle.term.specs.TermEnd.{GroundNode}
 use Rattle.term.proofs.SignedLaw.{Natural, natural, order}
 use Rattle.term.proofs.GroundLaw.{least-at, most-at, low-tag, high-tag, low-datum, high-datum, in-range}
@@ -44,7 +44,7 @@ mul-if3 c = search needs
 element-copy-out-if3 : tie.Need-element-copy-out-if3
 element-copy-out-if3 c = search needs
 
-small : (c : tie.Else2) → tag (c .before) .number < 16
+small : (c : tie.Else2) → tag (c .before) .number < tags
 small c = let g = tag (c .before) .gives in let h = c .if2 .left in omega arith
 
 -- the datum is below the range, or not
@@ -73,15 +73,15 @@ element-copy-out-if4 c = search needs
 
 -- above it, or not
 module _ (c : tie.After-if42) where
-  to : getD (c .before .before .before .before .before .args .ranges .now) (natAbs (toZ w64 (ofZ w64 (c .before .before .before .before .before .args .t))) + 16) (pos 0) ≡ getD groundMosts (tag (c .before .before .before .before) .number) (pos 0)
+  to : getD (c .before .before .before .before .before .args .ranges .now) (natAbs (toZ w64 (ofZ w64 (c .before .before .before .before .before .args .t))) + tags) (pos 0) ≡ getD groundMosts (tag (c .before .before .before .before) .number) (pos 0)
   to =
       let n = tag (c .before .before .before .before) .number in
-      ap₂ (λ (l : List ℤ) (n : ℕ). getD l (n + 16) (pos 0)) (c .before .before .before .before .before .pre) (tag (c .before .before .before .before) .gives) ∙ most-at n
+      ap₂ (λ (l : List ℤ) (n : ℕ). getD l (n + tags) (pos 0)) (c .before .before .before .before .before .pre) (tag (c .before .before .before .before) .gives) ∙ most-at n
 
-  above : (r : Bool) → ltZ (toZ w64 (ofZ w64 (getD (c .before .before .before .before .before .args .ranges .now) (natAbs (toZ w64 (ofZ w64 (c .before .before .before .before .before .args .t))) + 16) (pos 0)))) (toZ w64 (ofZ w64 (c .before .before .before .before .before .args .d))) ≡ r → ltZ (getD groundMosts (tag (c .before .before .before .before) .number) (pos 0)) (c .before .before .before .before .before .args .d) ≡ r
+  above : (r : Bool) → ltZ (toZ w64 (ofZ w64 (getD (c .before .before .before .before .before .args .ranges .now) (natAbs (toZ w64 (ofZ w64 (c .before .before .before .before .before .args .t))) + tags) (pos 0)))) (toZ w64 (ofZ w64 (c .before .before .before .before .before .args .d))) ≡ r → ltZ (getD groundMosts (tag (c .before .before .before .before) .number) (pos 0)) (c .before .before .before .before .before .args .d) ≡ r
   above r h =
       let d = c .before .before .before .before .before .args .d in
-      ap (λ (z : ℤ). ltZ z d) (sym to) ∙ order (getD (c .before .before .before .before .before .args .ranges .now) (natAbs (toZ w64 (ofZ w64 (c .before .before .before .before .before .args .t))) + 16) (pos 0)) d r (sfits-of (c .if42 .given)) (c .before .before .before .before .before .fits .d) h
+      ap (λ (z : ℤ). ltZ z d) (sym to) ∙ order (getD (c .before .before .before .before .before .args .ranges .now) (natAbs (toZ w64 (ofZ w64 (c .before .before .before .before .before .args .t))) + tags) (pos 0)) d r (sfits-of (c .if42 .given)) (c .before .before .before .before .before .fits .d) h
 
 returns-4 : tie.Need-returns-4
 returns-4 c =
