@@ -29,10 +29,11 @@ use Rattle.minuska.proofs.Bridge.PositionLaw.{few-rules}
 use Rattle.minuska.proofs.Bridge.PlaceLaw.{stands-head, stands-word}
 use Rattle.minuska.proofs.Bridge.WriteLaw.{emit-values}
 use Rattle.minuska.proofs.Bridge.IndexLaw.{RulePlaced, rightOf, rule-placed, left-stands, right-stands, conditions-stand}
-use Rattle.step.specs.Apply.{RuleAt, Names, Matched, SomeMatched, MatchIs, rootTag, RootMeets, RootIs, HoldIs, MeasureIs, WordsFit, WriteIs}
+use Rattle.step.specs.Apply.{Candidate, Names, Matched, SomeMatched, MatchIs, rootTag, RootMeets, RootIs, HoldIs, MeasureIs, WordsFit, WriteIs}
 use Rattle.step.specs.Matching.{IsLeft, LeftIn, MatchContract}
 use Rattle.step.specs.Conditions.{Sides, Conditions, SomeConditions, HoldAllIs}
 use Rattle.step.specs.Right.{Rest, SomeRest, MeasureRightIs, FittingRest, WriteRightIs}
+use Rattle.step.specs.declared.passed.Passed.{Passed}
 use Rattle.step.specs.declared.right.Fit.{Fit}
 use Rattle.step.proofs.MatchingLaw.{word}
 use Rattle.step.proofs.MatchingAnswer.{root-other}
@@ -69,7 +70,7 @@ module _ (ws : List ℤ) (index : List ℕ) (n : ℕ) (x : Indexed ws index) whe
   pub left-in : Names ws n → LeftIn ws (getD index (4 * n + 0) 0 + 2) (getD index (4 * n + 1) 0)
   left-in a = record { left = a .rule .left; is = is-left (a .table) (a .rule) (a .is) (a .numbered) }
 
-  pub match-is : (cs : List ℤ) (starts starts′ ends′ : List ℕ) (r : Bool) → MatchContract ws (getD index (4 * n + 0) 0 + 2) (getD index (4 * n + 1) 0) cs starts starts′ ends′ r → MatchIs ws cs n starts′ ends′ r
+  pub match-is : (cs : List ℤ) (starts starts′ ends′ : List ℕ) (r : Passed) → MatchContract ws (getD index (4 * n + 0) 0 + 2) (getD index (4 * n + 1) 0) cs starts starts′ ends′ r → MatchIs ws cs n starts′ ends′ r
   match-is cs starts starts′ ends′ r m =
       record {
         answer = λ rule g a. m .each (rule .left) g (is-left (a .table) rule (a .is) (a .numbered)) (a .configuration) .answer;
@@ -84,7 +85,7 @@ module _ (ws : List ℤ) (index : List ℕ) (n : ℕ) (x : Indexed ws index) whe
     abbrev at : ℕ
     at = getD index (4 * n + 0) 0 + 2
 
-    module _ (rule : Rule) (g : Term) (a : RuleAt ws cs n rule g) where
+    module _ (rule : Rule) (g : Term) (a : Candidate ws cs n rule g) where
       abbrev left : IsLeft ws at (getD index (4 * n + 1) 0) (rule .left)
       left = is-left (a .table) rule (a .is) (a .numbered)
 
@@ -104,11 +105,11 @@ module _ (ws : List ℤ) (index : List ℕ) (n : ℕ) (x : Indexed ws index) whe
     root-differs plain f =
         record { is = λ rule g a. (λ e. apart rule g a, λ h. refl); differs = λ e rule g a. root-other (left rule g a) (a .configuration) plain f }
       where
-        apart : (rule : Rule) (g : Term) → RuleAt ws cs n rule g → RootMeets (rule .left) g → ⊥
+        apart : (rule : Rule) (g : Term) → Candidate ws cs n rule g → RootMeets (rule .left) g → ⊥
         apart rule g a (inl e) = plain (left-tag rule g a ∙ e)
         apart rule g a (inr h) = f (left-tag rule g a ∙ (h .0 ∙ sym (ground-tag rule g a))) (left-datum rule g a ∙ (h .1 ∙ sym (ground-datum rule g a)))
 
-    root-meets : ((rule : Rule) (g : Term) → RuleAt ws cs n rule g → RootMeets (rule .left) g) → RootIs ws cs n false
+    root-meets : ((rule : Rule) (g : Term) → Candidate ws cs n rule g → RootMeets (rule .left) g) → RootIs ws cs n false
     root-meets f =
         record { is = λ rule g a. (λ e. absurd (false≢true e), λ h. absurd (h (f rule g a))); differs = λ e. absurd (false≢true e) }
 
@@ -172,7 +173,7 @@ module _ (ws : List ℤ) (index : List ℕ) (n : ℕ) (x : Indexed ws index) whe
     pub some-conditions : SomeMatched ws cs n starts ends → SomeConditions ws cs starts ends (getD index (4 * n + 2) 0) (getD index (4 * n + 3) 0)
     some-conditions s = record { valuation = s .valuation; conditions = s .rule .conditions; is = conditions-at (s .rule) (s .configuration) (s .valuation) (s .is) }
 
-    pub hold-is : (r : Bool) → HoldAllIs ws cs starts ends (getD index (4 * n + 2) 0) (getD index (4 * n + 3) 0) r → HoldIs ws cs n starts ends r
+    pub hold-is : (r : Passed) → HoldAllIs ws cs starts ends (getD index (4 * n + 2) 0) (getD index (4 * n + 3) 0) r → HoldIs ws cs n starts ends r
     hold-is r h = record { is = λ rule g ρ m. h .is ρ (rule .conditions) (conditions-at rule g ρ m) }
 
     the-rest : (s : SomeMatched ws cs n starts ends) (h : Term) → value (s .valuation) (s .rule .right) ≡ some h → SomeRest ws cs starts ends (getD index (4 * n + 1) 0) (getD index (4 * n + 2) 0)

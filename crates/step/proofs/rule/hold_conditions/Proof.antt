@@ -4,10 +4,10 @@ use native.Mathlib.Omega.{arith}
 use lib.ListN.{getD}
 use Rattle.step.specs.Conditions.{HoldAllIs}
 use Rattle.step.proofs.RuleLaw.{named-within, matched-names, some-conditions, hold-is}
-use Rattle.step.proofs.rule.conditions_hold.Statement.{statement}
-use Rattle.step.proofs.rule.conditions_hold.Tie as tie
-use Rattle.step.proofs.rule.conditions_hold.Reads as reads
-use Rattle.step.proofs.rule.conditions_hold.Lts as lts
+use Rattle.step.proofs.rule.hold_conditions.Statement.{statement}
+use Rattle.step.proofs.rule.hold_conditions.Tie as tie
+use Rattle.step.proofs.rule.hold_conditions.Reads as reads
+use Rattle.step.proofs.rule.hold_conditions.Lts as lts
 use Rattle.step.proofs.conditions.hold_all.Reads as hold-all-reads
 use Rattle.step.proofs.rule.place.Reads as place-reads
 
@@ -32,6 +32,6 @@ returns c =
     (subst (λ (at : ℕ). HoldAllIs (s .args .table .now) (s .args .configuration .now) (s .args .starts .now) (s .args .ends .now) at (getD (s .args .index .now) (4 * s .args .rule + 3) 0) (c .hold-all .result)) (p .before .place .ensures)
     (subst (λ (end : ℕ). HoldAllIs (s .args .table .now) (s .args .configuration .now) (s .args .starts .now) (s .args .ends .now) (p .before .place .result) end (c .hold-all .result)) (p .place2 .ensures) (c .hold-all .ensures)))
 
-pub conditions-hold-spec : {M : Type 1} → statement M
-conditions-hold-spec =
+pub hold-conditions-spec : {M : Type 1} → statement M
+hold-conditions-spec =
     tie.close (tie.spec place-requires place-requires-2 hold-all-requires returns)
