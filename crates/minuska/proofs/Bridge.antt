@@ -4,6 +4,7 @@ pub mod ItemLaw
 pub mod AppendedLaw
 pub mod PlaceLaw
 pub mod IndexLaw
+pub mod RootLaw
 pub mod AcceptedLaw
 pub mod PositionLaw
 pub mod PartLaw

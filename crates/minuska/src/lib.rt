@@ -61,8 +61,9 @@ pub enum ReplayAnswer {
     Refused(Refusal),
 }
 
-// How many numbers the index of a table has, and the index: where the parts of its rules stand (specs/Computed/Place). A table's check fills it; every routine on
-// checked words is lent it.
-pub const INDEX_LEN: usize = 1024;
+// The index of a table: a row of numbers for each of at most 256 rules (specs/Bridge/Place). A table's check fills it; every routine on checked words is lent it.
+pub const PER_RULE: usize = 6;
 
-pub type Index = [usize; INDEX_LEN];
+pub const INDEX_LEN: usize = 256 * PER_RULE;
+
+pub type Index = [u32; INDEX_LEN];

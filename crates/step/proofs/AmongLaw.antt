@@ -1,4 +1,4 @@
--- Rules tried one after the other: what each turn of `seek` and of `apply_among` says, and the two steps from it.
+-- Rules tried one after the other: what each turn of `apply_among` says, and the two steps from it.
 use mathlib.Core.Path.{_≡_, refl, sym, _∙_, ap, ap₂, subst}
 use mathlib.Core.Bool.{Bool, true, false, cond}
 use mathlib.Core.Option.{Option, none, some, Option·none-ne-some, Option·some-injective}
@@ -21,18 +21,20 @@ use Rattle.minuska.specs.Computed.Match.{tryMatch, unbound}
 use Rattle.minuska.specs.Computed.Value.{value, holdAll}
 use Rattle.minuska.specs.Computed.Step.{successor, successorBy, answered, withNumber, sized, actionIn, orNext, firstOf, earliest, order, step}
 use Rattle.minuska.specs.Computed.Outcome.{ruleOutcome, stepOutcome}
-use Rattle.minuska.specs.Bridge.Place.{Indexed, Accepted, RuleCountIs, OrderedIs}
+use Rattle.minuska.specs.Bridge.Place.{Indexed, Names, Accepted, RuleCountIs, OrderedIs, Positions, SeekIs}
 use Rattle.minuska.specs.Contract.{StepByRuleContract, StepContract}
 use Rattle.minuska.proofs.Tests.{came}
 use Rattle.minuska.proofs.ShutLaw.{step-is, step-outcome-is}
 use Rattle.minuska.proofs.OutcomeLaw.{on-words}
 use Rattle.minuska.proofs.ContractLaw.{step-by-rule-contract, step-contract}
 use Rattle.minuska.proofs.Bridge.IndexLaw.{one-table}
+use Rattle.minuska.proofs.Bridge.RootLaw.{root-misses}
 use Rattle.minuska.proofs.Bridge.PositionLaw.{element-at, element-there, order-length, order-names}
+use Rattle.table.proofs.IndexLaw.{positions-of}
 use Rattle.step.specs.declared.rule.Verdict.{Verdict}
 use Rattle.step.specs.declared.rule.Verdict.the-variants.{Applies}
-use Rattle.step.specs.Apply.{Candidate, Names, Matched, SomeMatched, RootIs, JudgeIs, Instantiated}
-use Rattle.step.specs.Among.{positions, Positions, SeekIs, AmongIs}
+use Rattle.step.specs.Apply.{Candidate, Matched, SomeMatched, JudgeIs, Instantiated}
+use Rattle.step.specs.Among.{positions, AmongIs}
 use Rattle.step.proofs.ApplyLaw.{outcome-by, instantiated-answer, instantiated-out, unmatched, past-successor}
 
 -- ---- the order from a position on
@@ -45,23 +47,26 @@ module _ (t : Table) (i to : ℕ) where
   positions-none : to ≤ i → positions i to t ≡ []
   positions-none h = ap (λ (k : ℕ). take k (drop i (order t))) (let e : to - i ≡ 0 = omega arith in e)
 
-  positions-next : {ws : List ℤ} {n : ℕ} → IsTable ws t → to ≤ length t → i < to → OrderedIs ws i n → positions i to t ≡ n ∷ positions (i + 1) to t
-  positions-next {ws} {n} p h below o =
-      let (m, f) = element-there (order t) i (omega (arith, order-length t)) in
-      let e : m ≡ n = sym (o .is t p m f) in
+  positions-at : (n : ℕ) → i < to → getElem? (order t) i ≡ some n → positions i to t ≡ n ∷ positions (i + 1) to t
+  positions-at n below f =
       let k : to - i ≡ suc (to - (i + 1)) = omega arith in
-      ap₂ (λ (x : ℕ) (l : List ℕ). take x l) k (at-position (order t) i m f) ∙
-      ap₂ (λ (x y : ℕ). x ∷ take (to - (i + 1)) (drop y (order t))) e (sym (add-one i))
+      ap₂ (λ (x : ℕ) (l : List ℕ). take x l) k (at-position (order t) i n f) ∙ ap (λ (y : ℕ). n ∷ take (to - (i + 1)) (drop y (order t))) (sym (add-one i))
+
+  positions-next : {ws : List ℤ} {n : ℕ} → IsTable ws t → Positions ws to → i < to → OrderedIs ws i n → positions i to t ≡ n ∷ positions (i + 1) to t
+  positions-next {ws} {n} p s below o =
+      let k = s .there t p in
+      let (m, f) = element-there (order t) i (omega arith) in
+      positions-at n below (subst (λ (x : ℕ). getElem? (order t) i ≡ some x) (sym (o .is t p m f)) f)
 
 positions-all : (t : Table) (count : ℕ) → count ≡ length t → positions 0 count t ≡ order t
 positions-all t count e = take-all (count - 0) (order t) (omega (arith, order-length t))
 
 -- every position of the order names a rule
-pub position-names : {ws : List ℤ} {index : List ℕ} {from i to n : ℕ} → Indexed ws index → Positions ws from to → i < to → OrderedIs ws i n → Names ws n
-position-names {ws} {index} {from} {i} {to} {n} x s below o =
+pub position-names : {ws : List ℤ} {index : List ℕ} {i to n : ℕ} → Indexed ws index → Positions ws to → i < to → OrderedIs ws i n → Names ws n
+position-names {ws} {index} {i} {to} {n} x s below o =
     let t = x .table in
-    let k = s .within t (x .is) in
-    let h : i < length (order t) = omega (arith, order-length t) in
+    let k = s .there t (x .is) in
+    let h : i < length (order t) = omega arith in
     let p : n ≡ getD (order t) i 0 = o .is t (x .is) (getD (order t) i 0) (element-at (order t) 0 i h) in
     let (r, e) = element-there t n (omega (arith, order-names t i h)) in
     record { table = t; is = x .is; rule = r; numbered = e }
@@ -71,9 +76,6 @@ module _ (ws cs : List ℤ) (n : ℕ) (a : Names ws n) where
   abbrev candidate : (t : Table) (g : Term) → IsTable ws t → IsConfiguration cs g → Candidate ws cs n (a .rule) g
   candidate t g p q =
       record { table = t; is = p; numbered = subst (λ (u : Table). getElem? u n ≡ some (a .rule)) (one-table ws (a .table) t (a .is) p) (a .numbered); configuration = q }
-
-  pub root-none : (r : Bool) → RootIs ws cs n r → r ≡ true → (t : Table) (g : Term) → IsTable ws t → IsConfiguration cs g → successorBy t n g ≡ none
-  root-none r k e t g p q = unmatched ws cs n (a .rule) g (candidate t g p q) (k .differs e (a .rule) g (candidate t g p q))
 
   module _ (starts ends : List ℕ) (r : Verdict) (j : JudgeIs ws cs n starts ends r) where
     pub judged-none : (r ≡ Applies → ⊥) → (t : Table) (g : Term) → IsTable ws t → IsConfiguration cs g → successorBy t n g ≡ none
@@ -107,17 +109,27 @@ module _ (ws cs : List ℤ) (n : ℕ) (a : Names ws n) where
     judged-matched e x y =
         let z = applying e (x .table) (y .term) (x .is) (y .is) in record { rule = a .rule; configuration = y .term; valuation = z .valuation; is = z .matched }
 
--- ---- positions passed over from one on
-module _ (ws cs : List ℤ) (from to : ℕ) where
-  pub record Passing (i : ℕ) : Type 0 where
-    pub same : (t : Table) (g : Term) → IsTable ws t → IsConfiguration cs g → firstOf t (positions from to t) g ≡ firstOf t (positions i to t) g
+-- ---- positions that are passed over: the rules there do not apply
+module _ (ws cs : List ℤ) (from to r : ℕ) (s : SeekIs ws cs from to r) (b : Positions ws to) (t : Table) (g : Term) (p : IsTable ws t) (q : IsConfiguration cs g) where
+  passed-none : (i n : ℕ) → from ≤ i → i < r → getElem? (order t) i ≡ some n → successorBy t n g ≡ none
+  passed-none i n low below f =
+      let k = b .there t p in
+      let h : i < length (order t) = let z = s .high in omega arith in
+      let e : getD (order t) i 0 ≡ n = Option·some-injective (getD (order t) i 0) n (sym (element-at (order t) 0 i h) ∙ f) in
+      let (rule, x) = element-there t n (omega (arith, order-names t i h)) in
+      unmatched ws cs n rule g (record { table = t; is = p; numbered = x; configuration = q }) (root-misses (rule .left) g (s .passed .differ t rule g i n p q low below f x))
 
-  pub passing-first : Passing from
-  passing-first = record { same = λ t g p q. refl }
+  skip : (d i : ℕ) → i + d ≡ r → from ≤ i → firstOf t (positions i to t) g ≡ firstOf t (positions r to t) g
+  skip zero i e low = ap (λ (k : ℕ). firstOf t (positions k to t) g) (let h : i ≡ r = omega arith in h)
+  skip (suc d) i e low =
+      let k = b .there t p in
+      let z = s .high in
+      let (n, f) = element-there (order t) i (omega arith) in
+      ap (λ (l : List ℕ). firstOf t l g) (positions-at t i to n (omega arith) f) ∙
+      (ap (λ (x : Option Term). orNext n x (firstOf t (positions (i + 1) to t) g)) (passed-none i n low (omega arith) f) ∙ skip d (i + 1) (omega arith) (omega arith))
 
-  pub passing-on : (i n : ℕ) → Positions ws from to → i < to → OrderedIs ws i n → ((t : Table) (g : Term) → IsTable ws t → IsConfiguration cs g → successorBy t n g ≡ none) → Passing i → Passing (i + 1)
-  passing-on i n s below o f k =
-      record { same = λ t g p q. k .same t g p q ∙ (ap (λ (l : List ℕ). firstOf t l g) (positions-next t i to p (s .within t p) below o) ∙ ap (λ (z : Option Term). orNext n z (firstOf t (positions (i + 1) to t) g)) (f t g p q)) }
+  pub sought : firstOf t (positions from to t) g ≡ firstOf t (positions r to t) g
+  sought = let z = s .low in skip (r - from) from (omega arith) (omega arith)
 
 -- ---- a rule, then those at positions
 module _ (ws cs : List ℤ) (first from to : ℕ) where
@@ -129,12 +141,12 @@ module _ (ws cs : List ℤ) (first from to : ℕ) where
   trying-first = record { same = λ t g p q. refl }
 
   module _ (rule i : ℕ) (k : Trying rule i) where
-    module _ (f : (t : Table) (g : Term) → IsTable ws t → IsConfiguration cs g → successorBy t rule g ≡ none) (r : ℕ) (s : SeekIs ws cs i to r) where
+    module _ (f : (t : Table) (g : Term) → IsTable ws t → IsConfiguration cs g → successorBy t rule g ≡ none) (r : ℕ) (s : SeekIs ws cs i to r) (b : Positions ws to) where
       behind : (t : Table) (g : Term) → IsTable ws t → IsConfiguration cs g → firstOf t (first ∷ positions from to t) g ≡ firstOf t (positions r to t) g
-      behind t g p q = k .same t g p q ∙ (ap (λ (z : Option Term). orNext rule z (firstOf t (positions i to t) g)) (f t g p q) ∙ s .same t g p q)
+      behind t g p q = k .same t g p q ∙ (ap (λ (z : Option Term). orNext rule z (firstOf t (positions i to t) g)) (f t g p q) ∙ sought ws cs i to r s b t g p q)
 
-      pub trying-on : (n : ℕ) → Positions ws i to → r < to → OrderedIs ws r n → Trying n (r + 1)
-      trying-on n b below o = record { same = λ t g p q. behind t g p q ∙ ap (λ (l : List ℕ). firstOf t l g) (positions-next t r to p (b .within t p) below o) }
+      pub trying-on : (n : ℕ) → r < to → OrderedIs ws r n → Trying n (r + 1)
+      trying-on n below o = record { same = λ t g p q. behind t g p q ∙ ap (λ (l : List ℕ). firstOf t l g) (positions-next t r to p b below o) }
 
       pub none-applies : (out : List ℤ) → to ≤ r → AmongIs ws cs first from to out out S.Stuck
       unfolding stepAnswer stepOut
@@ -201,8 +213,8 @@ module _ (ws cs : List ℤ) (index : List ℕ) (out : List ℤ) (x : Indexed ws 
 
   -- ---- the step: all rules in their order
   module _ (count : ℕ) (c : RuleCountIs ws count) where
-    pub all-positions : (from : ℕ) → from ≤ count → Positions ws from count
-    all-positions from h = record { inOrder = h; within = λ t p. let e : count ≡ length t = c .is t p in omega arith }
+    pub every-position : Positions ws count
+    every-position = positions-of ws count count c (omega arith)
 
     outcome-first : (first : ℕ) → SeekIs ws cs 0 count first → stepOutcome ws cs (length out) ≡ gives (answered (x .table) (outLimit (length out)) (firstOf (x .table) (positions first count (x .table)) (y .term)))
     outcome-first first s =
@@ -212,7 +224,7 @@ module _ (ws cs : List ℤ) (index : List ℕ) (out : List ℤ) (x : Indexed ws 
         (on-words ws cs t g (x .is) (y .is) (λ u h. gives (step u (outLimit (length out)) h)) ∙
         (ap {B = Outcome StepResult} gives (step-is t (outLimit (length out)) g) ∙
         ap (λ (z : Option (ℕ × Term)). gives (answered t (outLimit (length out)) z))
-        (ap (λ (l : List ℕ). firstOf t l g) (sym (positions-all t count (c .is t (x .is)))) ∙ s .same t g (x .is) (y .is))))
+        (ap (λ (l : List ℕ). firstOf t l g) (sym (positions-all t count (c .is t (x .is)))) ∙ sought ws cs 0 count first s every-position t g (x .is) (y .is))))
 
     module _ (first : ℕ) (s : SeekIs ws cs 0 count first) where
       pub none-at-all : count ≤ first → StepContract ws cs out out S.Stuck
@@ -228,5 +240,5 @@ module _ (ws cs : List ℤ) (index : List ℕ) (out : List ℤ) (x : Indexed ws 
           let t = x .table in
           let g = y .term in
           let w : stepOutcome ws cs (length out) ≡ gives (answered t (outLimit (length out)) (firstOf t (n ∷ positions (first + 1) count t) g)) =
-          outcome-first first s ∙ ap (λ (l : List ℕ). gives (answered t (outLimit (length out)) (firstOf t l g))) (positions-next t first count (x .is) (let e : count ≡ length t = c .is t (x .is) in omega arith) below o) in
+          outcome-first first s ∙ ap (λ (l : List ℕ). gives (answered t (outLimit (length out)) (firstOf t l g))) (positions-next t first count (x .is) every-position below o) in
           step-contract ws cs out out′ r (k .answer t g (x .is) (y .is) ∙ ap stepAnswer (sym w)) (k .leaves t g (x .is) (y .is) ∙ ap (λ (z : Outcome StepResult). stepOut z out) (sym w))

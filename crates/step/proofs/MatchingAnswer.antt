@@ -23,7 +23,7 @@ use Rattle.step.specs.Compare.{Comparison, apart, comparison, passedBy, 
 use Rattle.step.specs.Matching.{IsLeft, LeftMatched, Walk, Walking, Put, After, LeftTurned}
 use Rattle.step.specs.declared.matching.LeftTurn.{LeftTurn}
 use Rattle.step.proofs.CompareLaw.{later-none, compare-match}
-use Rattle.step.proofs.MatchingLaw.{word, has-part, turned-other}
+use Rattle.step.proofs.MatchingLaw.{has-part}
 
 zeros : (k v : ℕ) → _≡_ {A = ℕ} (getD (replicate k 0) v 0) 0
 zeros zero v = refl
@@ -101,11 +101,6 @@ module _ {table : List ℤ} {at end : ℕ} {config : List ℤ} {l g : Term} (x :
     where
       not-all : Until n ≡ All → ⊥
       not-all f = let z : _≡_ {A = ℕ} 0 1 = cc in omega arith
-
--- a left whose root is no variable, and not the configuration's root
-pub root-other : {table : List ℤ} {at end : ℕ} {config : List ℤ} {l g : Term} → IsLeft table at end l → IsConfiguration config g → (word table at ≡ pos 3 → ⊥) → (word table at ≡ word config 0 → word table (at + 1) ≡ word config 1 → ⊥) → tryMatch (single l) (single g) unbound ≡ none
-root-other {table} {at} {end} {config} {l} {g} x y plain f =
-    sym (matched-by x y) ∙ ap boundBy (turned-other {starts = []} {ends = replicate 16 0} plain f .after 0 (comparison l g) (omega (arith, x .ends)) (begins [] x y))
 
 -- ---- the arrays, whatever is answered
 pub held : {table : List ℤ} {end : ℕ} {config : List ℤ} {n i j : ℕ} {starts ends : List ℕ} {o : Comparison} → Walking table end config n i j starts ends o → (v : ℕ) → (getD ends v 0 ≡ 0 → ⊥) → (t : Term) × BoundAt config (getD starts v 0) (getD ends v 0) v t

@@ -19,7 +19,7 @@ use Rattle.minuska.specs.declared.Refusal.the-variants.{OverLimit}
 use Rattle.minuska.specs.Computed.Match.{tryMatch, unbound}
 use Rattle.minuska.specs.Computed.Value.{value}
 use Rattle.minuska.specs.Computed.Step.{successor}
-use Rattle.minuska.specs.Bridge.Place.{Accepted, Binds, ActionIs}
+use Rattle.minuska.specs.Bridge.Place.{Names, Accepted, Binds, ActionIs}
 use Rattle.minuska.proofs.Bridge.AcceptedLaw.{term-length}
 use Rattle.step.specs.declared.right.Fit.{Fit}
 use Rattle.step.specs.declared.right.Fit.the-variants.{Words, TooLarge}
@@ -28,7 +28,7 @@ use Rattle.step.specs.declared.passed.Passed.the-variants.{All, Until}
 use Rattle.step.specs.declared.rule.Verdict.{Verdict}
 use Rattle.step.specs.declared.rule.Verdict.the-variants.{Misfit, Applies}
 use Rattle.step.specs.Compare.{Comparison, agreed, apart, comparison, passedBy}
-use Rattle.step.specs.Apply.{Candidate, Names, Matched, SomeMatched, MatchIs, HoldIs, verdictHeld, verdictBy, verdictOf, JudgeIs, MeasureIs, WordsFit, WriteIs, Instantiated}
+use Rattle.step.specs.Apply.{Candidate, Matched, SomeMatched, MatchIs, HoldIs, verdictHeld, verdictBy, verdictOf, JudgeIs, MeasureIs, WordsFit, WriteIs, Instantiated}
 use Rattle.step.proofs.ApplyLaw.{too-large, words-fit, as-large, as-stepped, matched-some, verdict-applies}
 
 -- the limit that an out slice gives is within it

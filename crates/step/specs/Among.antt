@@ -1,7 +1,7 @@
 -- Rules tried one after the other, over checked words.
 use mathlib.Core.Path.{_≡_}
 use mathlib.Core.List.{List, _∷_}
-use Prim.Native.Nat.{ℕ, _-_, _≤_}
+use Prim.Native.Nat.{ℕ, _-_}
 use lib.IntN.{ℤ}
 use lib.ListN.{length, take, drop}
 use Rattle.minuska.specs.Term.{Term}
@@ -14,16 +14,6 @@ use Rattle.minuska.specs.Computed.Step.{order, firstOf, answered}
 -- the rules at the positions from one up to another of the order in which rules are tried
 abbrev pub positions : ℕ → ℕ → Table → List ℕ
 positions from to t = take (to - from) (drop from (order t))
-
-pub record Positions (ws : List ℤ) (from to : ℕ) : Type 0 where
-  pub inOrder : from ≤ to
-  pub within : (t : Table) → IsTable ws t → to ≤ length t
-
--- positions that are passed over: the rules there do not apply
-pub record SeekIs (ws cs : List ℤ) (from to r : ℕ) : Type 0 where
-  pub forward : from ≤ r
-  pub within : r ≤ to
-  pub same : (t : Table) (g : Term) → IsTable ws t → IsConfiguration cs g → firstOf t (positions from to t) g ≡ firstOf t (positions r to t) g
 
 -- the first that applies of a rule and of those at some positions, as the step answers it
 pub record AmongIs (ws cs : List ℤ) (first from to : ℕ) (out out′ : List ℤ) (r : StepAnswer) : Type 0 where

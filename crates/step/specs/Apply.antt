@@ -1,15 +1,15 @@
 -- One rule at one configuration, over checked words. Each statement is about every rule and term that the words can be: there is only one of each.
 use mathlib.Core.Path.{_≡_}
-use mathlib.Core.Bool.{Bool, true, cond}
-use mathlib.Core.Logic.{_⊎_, _↔_}
-use mathlib.Core.Option.{none, some}
+use mathlib.Core.Bool.{cond}
+use mathlib.Core.Logic.{_↔_}
+use mathlib.Core.Option.{some}
 use mathlib.Core.List.{List}
 use Prim.Native.Nat.{ℕ, _≤_}
-use lib.IntN.{ℤ, pos}
+use lib.IntN.{ℤ}
 use lib.Dec.{leb}
 use lib.ListN.{length, getElem?}
-use Rattle.minuska.specs.Term.{Term, single, termCount, nodeCount}
-use Rattle.minuska.specs.Word.{tagWord, datumWord, encode}
+use Rattle.minuska.specs.Term.{Term, single, nodeCount}
+use Rattle.minuska.specs.Word.{encode}
 use Rattle.minuska.specs.Satisfaction.{Valuation, SideCondition}
 use Rattle.minuska.specs.Rule.{Rule, Table, IsTable, IsConfiguration}
 use Rattle.minuska.specs.Slice.{write, outLimit}
@@ -36,13 +36,6 @@ pub record Candidate (ws cs : List ℤ) (n : ℕ) (rule : Rule) (g : Term) : Typ
   pub numbered : getElem? table n ≡ some rule
   pub configuration : IsConfiguration cs g
 
--- a number that names a rule
-pub record Names (ws : List ℤ) (n : ℕ) : Type 0 where
-  pub table : Table
-  pub is : IsTable ws table
-  pub rule : Rule
-  pub numbered : getElem? table n ≡ some rule
-
 -- its left matches the configuration under ρ, and the two arrays hold where ρ's terms stand
 pub record Matched (ws cs : List ℤ) (n : ℕ) (starts ends : List ℕ) (rule : Rule) (g : Term) (ρ : Valuation) : Type 0 where
   pub at : Candidate ws cs n rule g
@@ -60,18 +53,6 @@ pub record SomeMatched (ws cs : List ℤ) (n : ℕ) (starts ends : List ℕ) : T
 pub record MatchIs (ws cs : List ℤ) (n : ℕ) (starts′ ends′ : List ℕ) (r : Passed) : Type 0 where
   pub answer : (rule : Rule) (g : Term) → Candidate ws cs n rule g → r ≡ passedBy (comparison (rule .left) g)
   pub binds : (rule : Rule) (g : Term) (ρ : Valuation) → Candidate ws cs n rule g → tryMatch (single (rule .left)) (single g) unbound ≡ some ρ → Binds cs starts′ ends′ ρ
-
--- a left's root and a configuration's: a variable's, or the same two words
-abbrev pub rootTag : Term → ℤ
-rootTag t = tagWord (t .label) (termCount (t .children))
-
-abbrev pub RootMeets : Term → Term → Type 0
-RootMeets l g = (rootTag l ≡ pos 3) ⊎ ((rootTag l ≡ rootTag g) × (datumWord (l .label) ≡ datumWord (g .label)))
-
--- whether they are neither; and then the left does not match
-pub record RootIs (ws cs : List ℤ) (n : ℕ) (r : Bool) : Type 0 where
-  pub is : (rule : Rule) (g : Term) → Candidate ws cs n rule g → (r ≡ true) ↔ (RootMeets (rule .left) g → ⊥)
-  pub differs : r ≡ true → (rule : Rule) (g : Term) → Candidate ws cs n rule g → tryMatch (single (rule .left)) (single g) unbound ≡ none
 
 -- the conditions' answer: how far they hold
 pub record HoldIs (ws cs : List ℤ) (n : ℕ) (starts ends : List ℕ) (r : Passed) : Type 0 where

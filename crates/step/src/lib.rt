@@ -12,12 +12,13 @@ use minuska::Refusal;
 use minuska::StepAnswer;
 use right::Fit;
 ghost use mathlib.Core.Path.{_≡_};
+ghost use Prim.Native.Nat.{_≤_};
 ghost use Rattle.minuska.specs.Contract.{StepByRuleContract, StepContract};
-ghost use Rattle.minuska.specs.Bridge.Place.{Indexed, Accepted, RuleCountIs, ActionIs, OrderedIs, Decides};
+ghost use Rattle.minuska.specs.Bridge.Place.{Indexed, Names, Accepted, RuleCountIs, ActionIs, OrderedIs, Positions};
 ghost use Rattle.minuska.specs.Slice.{outLimit};
 ghost use Rattle.step.specs.Accept.{AcceptContract};
-ghost use Rattle.step.specs.Apply.{Names, SomeMatched, Instantiated};
-ghost use Rattle.step.specs.Among.{Positions, AmongIs};
+ghost use Rattle.step.specs.Apply.{SomeMatched, Instantiated};
+ghost use Rattle.step.specs.Among.{AmongIs};
 
 // Tags of nodes.
 const VARIABLE: i64 = 3;
@@ -52,7 +53,7 @@ pub fn apply_earliest<'a>(
     ensures { λ r. ⌜ StepContract (now (table .entry)) (now (configuration .entry)) (now (out .entry)) (now (out .exit)) r ⌝ }
 {
     let count = table::rule_count(table, index);
-    let first = rule::seek(table, index, configuration, 0, count);
+    let first = table::key::seek(table, index, configuration, 0, count);
     if count <= first {
         return StepAnswer::Stuck;
     }
@@ -71,7 +72,7 @@ fn apply_among<'a>(
     out: &mut [i64],
 ) -> StepAnswer
     requires { ⌜ Indexed (now table) (now index) × Accepted (now configuration) ⌝ }
-    requires { ⌜ Names (now table) first × Positions (now table) from to ⌝ }
+    requires { ⌜ Names (now table) first × Positions (now table) to × (from ≤ to) ⌝ }
     ensures { λ r. ⌜ AmongIs (now (table .entry)) (now (configuration .entry)) first from to (now (out .entry)) (now (out .exit)) r ⌝ }
 {
     let mut starts = [0usize; 16];
@@ -83,7 +84,7 @@ fn apply_among<'a>(
         if rule::applies(verdict) {
             return write_within(table, index, configuration, rule, &starts, &ends, out);
         }
-        i = rule::seek(table, index, configuration, i, to);
+        i = table::key::seek(table, index, configuration, i, to);
         if to <= i {
             return StepAnswer::Stuck;
         }
@@ -145,7 +146,7 @@ pub fn step_by_rule<'a>(
 ) -> StepAnswer
     ensures { λ r. ⌜ StepByRuleContract (now (table .entry)) (now (configuration .entry)) rule (now (out .entry)) (now (out .exit)) r ⌝ }
 {
-    let mut index = [0usize; INDEX_LEN];
+    let mut index = [0u32; INDEX_LEN];
     match accept(table, configuration, &mut index) {
         Check::Good => apply_rule(table, &index, configuration, rule, out),
         Check::Refused(r) => StepAnswer::Refused(r),
@@ -156,7 +157,7 @@ pub fn step_by_rule<'a>(
 pub fn step<'a>(table: &'a [i64], configuration: &'a [i64], out: &mut [i64]) -> StepAnswer
     ensures { λ r. ⌜ StepContract (now (table .entry)) (now (configuration .entry)) (now (out .entry)) (now (out .exit)) r ⌝ }
 {
-    let mut index = [0usize; INDEX_LEN];
+    let mut index = [0u32; INDEX_LEN];
     match accept(table, configuration, &mut index) {
         Check::Good => apply_earliest(table, &index, configuration, out),
         Check::Refused(r) => StepAnswer::Refused(r),

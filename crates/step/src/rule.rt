@@ -3,19 +3,9 @@ use crate::passed::Passed;
 use crate::right::Fit;
 use minuska::Index;
 ghost use mathlib.Core.Path.{_≡_};
-ghost use Prim.Native.Nat.{_+_, _*_, _<_};
-ghost use lib.ListN.{length, getD};
-ghost use Rattle.minuska.specs.Bridge.Place.{Indexed, Accepted, Decides};
-ghost use Rattle.step.specs.Apply.{Names, SomeMatched, MatchIs, RootIs, HoldIs, JudgeIs, MeasureIs, WordsFit, WriteIs};
-ghost use Rattle.step.specs.Among.{Positions, SeekIs};
-
-// A number of the index: where part 0, 1, 2 or 3 of a rule starts (the rule, its right, its conditions, what follows it).
-pub fn place(index: &Index, rule: usize, part: usize) -> usize
-    requires { ⌜ 4 * rule + part < 1024 ⌝ }
-    ensures { λ r. ⌜ r ≡ getD (now (index .entry)) (4 * rule + part) 0 ⌝ }
-{
-    index[4 * rule + part]
-}
+ghost use lib.ListN.{length};
+ghost use Rattle.minuska.specs.Bridge.Place.{Indexed, Names, Accepted, Decides};
+ghost use Rattle.step.specs.Apply.{SomeMatched, MatchIs, HoldIs, JudgeIs, MeasureIs, WordsFit, WriteIs};
 
 // Whether a rule applies to a configuration, or why not.
 pub enum Verdict {
@@ -70,44 +60,8 @@ pub fn match_rule(
     requires { ⌜ Indexed (now table) (now index) × Accepted (now configuration) × Names (now table) rule ⌝ }
     ensures { λ r. ⌜ MatchIs (now (table .entry)) (now (configuration .entry)) rule (now (starts .exit)) (now (ends .exit)) r ⌝ }
 {
-    let at = place(index, rule, 0);
-    let end = place(index, rule, 1);
-    crate::matching::match_left(table, at + 2, end, configuration, starts, ends)
-}
-
-// The first position from one on, before another, whose rule's left does not show at its root that it does not match.
-pub fn seek(table: &[i64], index: &Index, configuration: &[i64], from: usize, to: usize) -> usize
-    requires { ⌜ Indexed (now table) (now index) × Accepted (now configuration) × Positions (now table) from to ⌝ }
-    ensures { λ r. ⌜ SeekIs (now (table .entry)) (now (configuration .entry)) from to r ⌝ }
-{
-    let mut i = from;
-    while i < to {
-        let rule = table::ordered(table, index, i);
-        if !root_differs(table, index, rule, configuration) {
-            return i;
-        }
-        i += 1;
-    }
-    i
-}
-
-// Whether the left's root already says that the left does not match: it is no variable, and its words are not those of the configuration's root.
-pub fn root_differs(table: &[i64], index: &Index, rule: usize, configuration: &[i64]) -> bool
-    requires { ⌜ Indexed (now table) (now index) × Accepted (now configuration) × Names (now table) rule ⌝ }
-    ensures { λ r. ⌜ RootIs (now (table .entry)) (now (configuration .entry)) rule r ⌝ }
-{
-    let at = place(index, rule, 0) + 2;
-    let t = term::word(table, at);
-    if t == crate::VARIABLE {
-        return false;
-    }
-    if t != term::word(configuration, 0) {
-        return true;
-    }
-    if term::word(table, at + 1) != term::word(configuration, 1) {
-        return true;
-    }
-    false
+    let left = table::index::left(table, index, rule);
+    crate::matching::match_left(table, left.from, left.to, configuration, starts, ends)
 }
 
 // How far the rule's conditions hold.
@@ -122,9 +76,15 @@ pub fn hold_conditions<'a>(
     requires { ⌜ Indexed (now table) (now index) × SomeMatched (now table) (now configuration) rule (now starts) (now ends) ⌝ }
     ensures { λ r. ⌜ HoldIs (now (table .entry)) (now (configuration .entry)) rule (now (starts .entry)) (now (ends .entry)) r ⌝ }
 {
-    let at = place(index, rule, 2);
-    let end = place(index, rule, 3);
-    crate::conditions::hold_all(table, configuration, at, end, starts, ends)
+    let conditions = table::index::conditions(table, index, rule);
+    crate::conditions::hold_all(
+        table,
+        configuration,
+        conditions.from,
+        conditions.to,
+        starts,
+        ends,
+    )
 }
 
 // How many words the rule's successor has, if there is room for them.
@@ -140,9 +100,16 @@ pub fn measure(
     requires { ⌜ Indexed (now table) (now index) × SomeMatched (now table) (now configuration) rule (now starts) (now ends) ⌝ }
     ensures { λ r. ⌜ MeasureIs (now (table .entry)) (now (configuration .entry)) rule (now (starts .entry)) (now (ends .entry)) room r ⌝ }
 {
-    let at = place(index, rule, 1);
-    let end = place(index, rule, 2);
-    crate::right::measure_right(table, configuration, at, end, starts, ends, room)
+    let right = table::index::right(table, index, rule);
+    crate::right::measure_right(
+        table,
+        configuration,
+        right.from,
+        right.to,
+        starts,
+        ends,
+        room,
+    )
 }
 
 // Writes the words of the rule's successor from the start of out.
@@ -159,7 +126,14 @@ pub fn write_successor<'a>(
     requires { ⌜ WordsFit (now table) (now configuration) rule (now starts) (now ends) (length (now out)) ⌝ }
     ensures { λ _. ⌜ WriteIs (now (table .entry)) (now (configuration .entry)) rule (now (starts .entry)) (now (ends .entry)) (now (out .entry)) (now (out .exit)) ⌝ }
 {
-    let at = place(index, rule, 1);
-    let end = place(index, rule, 2);
-    crate::right::write_right(table, configuration, at, end, starts, ends, out)
+    let right = table::index::right(table, index, rule);
+    crate::right::write_right(
+        table,
+        configuration,
+        right.from,
+        right.to,
+        starts,
+        ends,
+        out,
+    )
 }

@@ -1,5 +1,5 @@
 -- The loop over a table's rules: what it has checked and written so far, and what it answers.
-use mathlib.Core.Path.{_≡_, refl, sym, _∙_, ap}
+use mathlib.Core.Path.{_≡_, refl, sym, _∙_, ap, ap₂}
 use mathlib.Core.Bool.{Bool, true, false, _&&_, cond, and-false}
 use mathlib.Core.Option.{Option, none, some, Option·some-injective}
 use mathlib.Core.List.{List, [], _∷_, _++_, append-assoc, append-nil}
@@ -11,21 +11,21 @@ use lib.ListN.{length, take, drop, getD, length-append, length-drop, take-append
 use lib.Seq.{length-take-le, take-at, drop-at, drop-drop, sets, sets-eq, length-sets}
 use borrow.Author.Tests.{le-leb, lt-leb}
 use Rattle.minuska.specs.Basics.{_>>=_, provided}
-use Rattle.minuska.specs.Term.{single}
-use Rattle.minuska.specs.Word.{encode}
-use Rattle.minuska.specs.Rule.{Rule, Table, conditionWords, ruleWords}
+use Rattle.minuska.specs.Rule.{Rule, Table, ruleWords}
 use Rattle.minuska.specs.declared.Check.{Check}
 use Rattle.minuska.specs.declared.Check.the-variants.{Good, Refused}
 use Rattle.minuska.specs.declared.Refusal.the-variants.{BadTable}
 use Rattle.minuska.specs.Slice.{write}
 use Rattle.minuska.specs.Computed.Read.{numberBelow, isEmpty, readRule, readRules, readTable}
 use Rattle.minuska.specs.Computed.Outcome.{checked, tableCheck}
-use Rattle.minuska.specs.Bridge.Place.{rulePlaces, placesFrom, places, Indexed}
+use Rattle.minuska.specs.Bridge.Place.{Stands, leftWords, rightWords, conditionsWords, leftFrom, keyOf, rootKey, perRule, indexLength, rulePlaces, placesFrom, places, Indexed}
 use Rattle.minuska.proofs.Tests.{came, provided-some, and-right, true-of}
-use Rattle.minuska.proofs.TableLaw.{read-table-iff}
+use Rattle.minuska.proofs.Good.{good}
+use Rattle.minuska.proofs.TableLaw.{rule-read, read-table-iff}
+use Rattle.minuska.proofs.Bridge.PlaceLaw.{stands-of, stands-head, stands-word}
 use Rattle.table.specs.Number.{naturalOf}
 use Rattle.table.specs.Rule.{RuleAt}
-use Rattle.table.specs.Index.{placesThen, placesRead, placesCounted, placesFound, IndexTableContract}
+use Rattle.table.specs.Index.{placesThen, placesRead, placesCounted, placesFound, rowOf, RowFits, IndexTableContract}
 use Rattle.table.proofs.BasicLaw.{none-after, never}
 use Rattle.table.proofs.NumberLaw.{below-not, below-yes}
 
@@ -64,7 +64,7 @@ places-found (n ∷ ws) t e =
     ap (λ (c : Bool). cond c (placesCounted (numberBelow 257 n) ws) []) (true-of l (and-right (isEmpty (b .0 .1)) l (w .0))) ∙
     (ap (λ (o : Option ℕ). placesCounted o ws) (a .1) ∙ (places-read (a .0) 1 ws (b .0) (b .1) ∙ ap places (w .1)))
 
-pub places-length : (at : ℕ) (t : Table) → length (placesFrom at t) ≡ 4 * length t
+pub places-length : (at : ℕ) (t : Table) → length (placesFrom at t) ≡ perRule * length t
 places-length at [] = refl
 places-length at (r ∷ t) = let e = places-length (at + length (ruleWords r)) t in omega arith
 
@@ -77,7 +77,7 @@ index-contract ws old index r e f = record { answer = e; leaves = f; indexed = �
     pick none q g = absurd (never (cc))
     pick (some t) q g =
         let p : index ≡ write (places t) old = f ∙ ap (λ (xs : List ℕ). write xs old) (places-found ws t q) in
-        record { table = t; is = read-table-iff ws t .0 q; indexed = ap (take (4 * length t)) p ∙ take-at (places t) (drop (length (places t)) old) (4 * length t) (places-length 1 t) }
+        record { table = t; is = read-table-iff ws t .0 q; indexed = ap (take (perRule * length t)) p ∙ take-at (places t) (drop (length (places t)) old) (perRule * length t) (places-length 1 t) }
 
 -- ---- the table's first word
 abbrev restCheck : Option (Table × List ℤ) → Check
@@ -87,11 +87,12 @@ restCheck (some p) = cond (isEmpty (p .1)) Good bad
 -- the loop: rule number `rule` is to be read at a place
 pub record Reached (ws : List ℤ) (old index : List ℕ) (count rule at : ℕ) : Type 0 where
   pub check : tableCheck ws ≡ restCheck (readRules (count - rule) (drop at ws))
-  pub found : placesFound ws ≡ take (4 * rule) index ++ placesRead (count - rule) at (drop at ws)
-  pub kept : drop (4 * rule) index ≡ drop (4 * rule) old
-  pub long : 1024 ≤ length index
+  pub found : placesFound ws ≡ take (perRule * rule) index ++ placesRead (count - rule) at (drop at ws)
+  pub kept : drop (perRule * rule) index ≡ drop (perRule * rule) old
+  pub long : indexLength ≤ length index
   pub few : count ≤ 256
   pub below : rule ≤ count
+  pub short : length ws ≤ 65536
 
 -- ---- words that are no table before any rule is read
 module _ (ws : List ℤ) (old : List ℕ) where
@@ -152,15 +153,59 @@ more-is : (r : Rule) (o : Option (Table × List ℤ)) → restCheck (o >>= moreT
 more-is r none = refl
 more-is r (some p) = refl
 
-rule-length : (at right conditions end : ℕ) (r : Rule) → rulePlaces at r ≡ at ∷ right ∷ conditions ∷ end ∷ [] → at + length (ruleWords r) ≡ end
-rule-length at right conditions end r e =
-    let a = encode (single (r .left)) in
-    let b = encode (single (r .right)) in
-    let c = conditionWords (r .conditions) in
-    let p : at + 2 + length a + length b + length c ≡ end = cc in
-    let n = length-append a (b ++ c) in
-    let m = length-append b c in
-    omega arith
+module _ (ws : List ℤ) (at right conditions end : ℕ) (p : RuleAt ws at right conditions end) where
+  abbrev r : Rule
+  r = p .rule
+
+  rule-length : at + length (ruleWords r) ≡ end
+  rule-length =
+      let a = leftWords r in
+      let b = rightWords r in
+      let c = conditionsWords r in
+      let e = p .endIs in
+      let n = length-append a (b ++ c) in
+      let m = length-append b c in
+      omega arith
+
+  read-words : ruleWords r ++ drop end ws ≡ drop at ws
+  read-words = rule-read (drop at ws) (r, drop end ws) (p .read) .1
+
+  rule-stands : Stands ws at (ruleWords r)
+  rule-stands =
+      let n = ap length read-words in
+      let m = length-append (ruleWords r) (drop end ws) in
+      let k = length-drop at ws in
+      stands-of (ruleWords r) (drop end ws) (sym read-words) (omega arith)
+
+  action-word : naturalOf (getD ws at (pos 0)) ≡ r .action
+  action-word = ap naturalOf (stands-head rule-stands (pos 0))
+
+  root-key : keyOf (getD ws (leftFrom at) (pos 0)) (getD ws (leftFrom at + 1) (pos 0)) ≡ rootKey (r .left)
+  root-key =
+      let e : leftFrom at + 1 ≡ at + 3 = omega arith in
+      ap₂ keyOf (stands-word rule-stands 2 (pos 0) (omega arith)) (ap (λ (i : ℕ). getD ws i (pos 0)) e ∙ stands-word rule-stands 3 (pos 0) (omega arith))
+
+  -- its row is written from what was found
+  row-is : rulePlaces at r ≡ rowOf ws at right conditions end
+  row-is = cc (p .rightIs, p .conditionsIs, p .endIs, root-key, action-word)
+
+  pub row-fits : length ws ≤ 65536 → RowFits ws at right conditions end
+  row-fits h =
+      let w = rule-stands .within in
+      let n = rule-length in
+      let a = length-append (leftWords r) (rightWords r ++ conditionsWords r) in
+      let b = length-append (rightWords r) (conditionsWords r) in
+      let i = p .rightIs in
+      let j = p .conditionsIs in
+      let k = p .endIs in
+      record {
+        root = omega arith;
+        rightFits = omega arith;
+        conditionsFit = omega arith;
+        endFits = omega arith;
+        short = h;
+        action = let e = action-word in let g = good r (rule-read (drop at ws) (r, drop end ws) (p .read) .0) .action in omega arith;
+      }
 
 module _ (index : List ℕ) (i : ℕ) (vs : List ℕ) (h : i + length vs ≤ length index) where
   stored : sets index i vs ≡ take i index ++ vs ++ drop (i + length vs) index
@@ -186,7 +231,7 @@ module _ (ws : List ℤ) (old : List ℕ) where
   pub refused-count : 256 < naturalOf (getD ws 0 (pos 0)) → IndexTableContract ws old old bad
   refused-count h = unread ws old (many-rules ws h)
 
-  pub starts : 0 < length ws → length ws ≤ 65536 → naturalOf (getD ws 0 (pos 0)) ≤ 256 → 1024 ≤ length old → Reached ws old old (naturalOf (getD ws 0 (pos 0))) 0 1
+  pub starts : 0 < length ws → length ws ≤ 65536 → naturalOf (getD ws 0 (pos 0)) ≤ 256 → indexLength ≤ length old → Reached ws old old (naturalOf (getD ws 0 (pos 0))) 0 1
   starts h l c r =
       let t = counted ws h l c in
       let n = naturalOf (getD ws 0 (pos 0)) in
@@ -198,6 +243,7 @@ module _ (ws : List ℤ) (old : List ℕ) where
         long = r;
         few = c;
         below = omega arith;
+        short = l;
       }
 
   module _ (index : List ℕ) (count rule at : ℕ) (r : Reached ws old index count rule at) where
@@ -207,10 +253,10 @@ module _ (ws : List ℤ) (old : List ℕ) where
         let l = r .long in
         let f = r .few in
         let b = r .below in
-        let p : placesFound ws ≡ take (4 * rule) index = r .found ∙ (ap (λ (xs : List ℕ). take (4 * rule) index ++ xs) e ∙ append-nil (take (4 * rule) index)) in
-        let n : length (placesFound ws) ≡ 4 * rule = ap length p ∙ length-take-le (4 * rule) index (omega arith) in
-        sym (ap (λ (xs : List ℕ). xs ++ drop (length (placesFound ws)) old) p ∙ (ap (λ (k : ℕ). take (4 * rule) index ++ drop k old) n ∙
-        (ap (λ (xs : List ℕ). take (4 * rule) index ++ xs) (sym (r .kept)) ∙ take-append-drop (4 * rule) index)))
+        let p : placesFound ws ≡ take (perRule * rule) index = r .found ∙ (ap (λ (xs : List ℕ). take (perRule * rule) index ++ xs) e ∙ append-nil (take (perRule * rule) index)) in
+        let n : length (placesFound ws) ≡ perRule * rule = ap length p ∙ length-take-le (perRule * rule) index (omega arith) in
+        sym (ap (λ (xs : List ℕ). xs ++ drop (length (placesFound ws)) old) p ∙ (ap (λ (k : ℕ). take (perRule * rule) index ++ drop k old) n ∙
+        (ap (λ (xs : List ℕ). take (perRule * rule) index ++ xs) (sym (r .kept)) ∙ take-append-drop (perRule * rule) index)))
 
     module _ (h : rule < count) where
       one : count - rule ≡ suc (count - (rule + 1))
@@ -223,34 +269,35 @@ module _ (ws : List ℤ) (old : List ℕ) where
           (sym (r .check ∙ (ap (λ (n : ℕ). restCheck (readRules n (drop at ws))) one ∙ ap (λ (o : Option (Rule × List ℤ)). restCheck (o >>= ruleThen k)) e)))
           (closed (ap (λ (n : ℕ). placesRead n at (drop at ws)) one ∙ ap (λ (o : Option (Rule × List ℤ)). placesThen at o (λ i xs. placesRead k i xs)) e))
 
-      pub goes-on : (right conditions end : ℕ) → RuleAt ws at right conditions end → Reached ws old (sets index (4 * rule) (at ∷ right ∷ conditions ∷ end ∷ [])) count (rule + 1) end
+      pub goes-on : (right conditions end : ℕ) → RuleAt ws at right conditions end → Reached ws old (sets index (perRule * rule) (rowOf ws at right conditions end)) count (rule + 1) end
       goes-on right conditions end p =
           let k = count - (rule + 1) in
-          let vs : List ℕ = at ∷ right ∷ conditions ∷ end ∷ [] in
+          let vs : List ℕ = rowOf ws at right conditions end in
           let l = r .long in
           let f = r .few in
-          let room : 4 * rule + length vs ≤ length index = omega arith in
-          let next : 4 * (rule + 1) ≡ 4 * rule + length vs = omega arith in
+          let room : perRule * rule + length vs ≤ length index = omega arith in
+          let next : perRule * (rule + 1) ≡ perRule * rule + length vs = omega arith in
           let rest : List ℕ = placesRead k end (drop end ws) in
-          let new : List ℕ = sets index (4 * rule) vs in
-          let n = length-sets index (4 * rule) vs in
+          let new : List ℕ = sets index (perRule * rule) vs in
+          let n = length-sets index (perRule * rule) vs in
           record {
             check =
                 r .check ∙ (ap (λ (n : ℕ). restCheck (readRules n (drop at ws))) one ∙
                 (ap (λ (o : Option (Rule × List ℤ)). restCheck (o >>= ruleThen k)) (p .read) ∙ more-is (p .rule) (readRules k (drop end ws))));
             found =
-                r .found ∙ (ap (λ (xs : List ℕ). take (4 * rule) index ++ xs)
+                r .found ∙ (ap (λ (xs : List ℕ). take (perRule * rule) index ++ xs)
                 (ap (λ (n : ℕ). placesRead n at (drop at ws)) one ∙ (ap (λ (o : Option (Rule × List ℤ)). placesThen at o (λ i xs. placesRead k i xs)) (p .read) ∙
-                (ap (λ (xs : List ℕ). xs ++ placesRead k (at + length (ruleWords (p .rule))) (drop end ws)) (p .places) ∙
-                ap (λ (i : ℕ). vs ++ placesRead k i (drop end ws)) (rule-length at right conditions end (p .rule) (p .places))))) ∙
-                (sym (append-assoc (take (4 * rule) index) vs rest) ∙
-                ap (λ (xs : List ℕ). xs ++ rest) (sym (take-stored index (4 * rule) vs room) ∙ ap (λ (i : ℕ). take i new) (sym next))));
+                (ap (λ (xs : List ℕ). xs ++ placesRead k (at + length (ruleWords (p .rule))) (drop end ws)) (row-is ws at right conditions end p) ∙
+                ap (λ (i : ℕ). vs ++ placesRead k i (drop end ws)) (rule-length ws at right conditions end p)))) ∙
+                (sym (append-assoc (take (perRule * rule) index) vs rest) ∙
+                ap (λ (xs : List ℕ). xs ++ rest) (sym (take-stored index (perRule * rule) vs room) ∙ ap (λ (i : ℕ). take i new) (sym next))));
             kept =
-                ap (λ (i : ℕ). drop i new) next ∙ (drop-stored index (4 * rule) vs room ∙ (sym (drop-drop (length vs) (4 * rule) index) ∙
-                (ap (drop (length vs)) (r .kept) ∙ (drop-drop (length vs) (4 * rule) old ∙ ap (λ (i : ℕ). drop i old) (sym next)))));
+                ap (λ (i : ℕ). drop i new) next ∙ (drop-stored index (perRule * rule) vs room ∙ (sym (drop-drop (length vs) (perRule * rule) index) ∙
+                (ap (drop (length vs)) (r .kept) ∙ (drop-drop (length vs) (perRule * rule) old ∙ ap (λ (i : ℕ). drop i old) (sym next)))));
             long = omega arith;
             few = f;
             below = omega arith;
+            short = r .short;
           }
 
     module _ (h : count ≤ rule) where

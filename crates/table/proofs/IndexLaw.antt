@@ -1,5 +1,5 @@
 -- A checked table and its index, as code reads them: the rule count, which numbers name a rule, a rule's action.
--- (`minuska`'s IndexLaw: the words are one table only, the four numbers of a rule, and what stands there.)
+-- (`minuska`'s IndexLaw: the words are one table only, a rule's row, and what stands there.)
 use mathlib.Core.Path.{_≡_, refl, sym, _∙_, ap, subst⁻¹}
 use mathlib.Core.Bool.{Bool, true, false}
 use mathlib.Core.Logic.{_↔_}
@@ -13,10 +13,9 @@ use lib.ListN.{length, getD, getElem?}
 use borrow.Author.Tests.{leb-true, leb-false}
 use Rattle.minuska.specs.Rule.{Rule, Table, IsTable}
 use Rattle.minuska.specs.Computed.Step.{upFrom, order}
-use Rattle.minuska.specs.Bridge.Place.{Indexed, RuleCountIs, ActionIs, OrderedIs}
+use Rattle.minuska.specs.Bridge.Place.{Stands, leftWords, rightWords, conditionsWords, perRule, Indexed, Names, PartIs, RuleCountIs, ActionIs, OrderedIs, Positions}
 use Rattle.minuska.proofs.Good.{good}
-use Rattle.minuska.proofs.Bridge.PlaceLaw.{stands-head}
-use Rattle.minuska.proofs.Bridge.IndexLaw.{one-table, RulePlaced, rule-placed}
+use Rattle.minuska.proofs.Bridge.IndexLaw.{one-table, RulePlaced, rule-placed, left-stands, right-stands, conditions-stand}
 use Rattle.minuska.proofs.Bridge.PositionLaw.{element-there, few-rules, order-length}
 use Rattle.minuska.proofs.StepLaw.{rule-okay}
 use Rattle.minuska.proofs.OrderLaw.{named-below}
@@ -33,6 +32,10 @@ module _ (ws : List ℤ) (t : Table) (p : IsTable ws t) where
 pub rule-count-is : (ws : List ℤ) (n : ℕ) → n ≡ naturalOf (getD ws 0 (pos 0)) → RuleCountIs ws n
 rule-count-is ws n e = record { is = λ t p. e ∙ ap naturalOf (first-word ws t p) }
 
+-- positions up to the rule count are there
+pub positions-of : (ws : List ℤ) (count to : ℕ) → RuleCountIs ws count → to ≤ count → Positions ws to
+positions-of ws count to c h = record { there = λ t p. let e = c .is t p in let n = order-length t in omega arith }
+
 -- ---- A NUMBER NAMES A RULE exactly if it is below the rule count
 unnamed : {A : Type 0} (xs : List A) (n : ℕ) → length xs ≤ n → getElem? xs n ≡ none
 unnamed [] n h = refl
@@ -44,48 +47,63 @@ names-iff ws t count n c p =
     let e = c .is t p in
     ((λ h. let k = named-below t n (h .0) (h .1) in omega arith), λ h. element-there t n (omega arith))
 
--- ---- a rule's action
-module _ (ws : List ℤ) (index : List ℕ) (x : Indexed ws index) (count : ℕ) (c : RuleCountIs ws count) (n : ℕ) where
-  pub no-rule : count ≤ n → ActionIs ws n 0
-  no-rule h =
+pub no-rule : (ws : List ℤ) (count : ℕ) → RuleCountIs ws count → (n : ℕ) → count ≤ n → ActionIs ws n 0
+no-rule ws count c n h =
+    record {
+      is = λ t r p e. absurd (let k = named-below t n r e in let q = c .is t p in let f : ⊥ = omega arith in f);
+      other = λ t p e. refl;
+    }
+
+pub names-below : (ws : List ℤ) (index : List ℕ) → Indexed ws index → (count : ℕ) → RuleCountIs ws count → (n : ℕ) → n < count → Names ws n
+names-below ws index x count c n h =
+    let r = names-iff ws (x .table) count n c (x .is) .1 h in
+    record { table = x .table; is = x .is; rule = r .0; numbered = r .1 }
+
+-- ---- a rule by its row: its action, and where its parts stand
+module _ (ws : List ℤ) (index : List ℕ) (n : ℕ) (x : Indexed ws index) where
+  placed : (t : Table) (r : Rule) → IsTable ws t → getElem? t n ≡ some r → RulePlaced ws index n r
+  placed t r p e = rule-placed ws index t n r x p e
+
+  pub named-small : Names ws n → n < 256
+  named-small a = let h = named-below (a .table) n (a .rule) (a .numbered) in let k = few-rules (a .table) (a .is .accepted) in omega arith
+
+  action-at : (t : Table) (r : Rule) → IsTable ws t → getElem? t n ≡ some r → getD index (perRule * n + 5) 0 ≡ r .action
+  action-at t r p e = placed t r p e .numbers 5 (omega arith)
+
+  pub action-low : Names ws n → getD index (perRule * n + 5) 0 < 65536
+  action-low a =
+      let e = action-at (a .table) (a .rule) (a .is) (a .numbered) in
+      let h = good (a .rule) (rule-okay (a .table) (a .is .accepted) n (a .rule) (a .numbered)) .action in
+      omega arith
+
+  pub action-is : Names ws n → (k : ℕ) → k ≡ getD index (perRule * n + 5) 0 → ActionIs ws n k
+  action-is a k q =
       record {
-        is = λ t r p e. absurd (let k = named-below t n r e in let q = c .is t p in let f : ⊥ = omega arith in f);
-        other = λ t p e. refl;
+        is = λ t r p e. q ∙ action-at t r p e;
+        other = λ t p e. absurd (Option·none-ne-some (a .rule) (sym e ∙ (ap (λ (u : Table). getElem? u n) (one-table ws t (a .table) p (a .is)) ∙ a .numbered)));
       }
 
-  module _ (h : n < count) where
-    abbrev pub the-rule : Rule
-    the-rule = names-iff ws (x .table) count n c (x .is) .1 h .0
+  part-is : {words : Rule → List ℤ} {from to : ℕ} → ((r : Rule) → RulePlaced ws index n r → Stands ws from (words r) × (to ≡ from + length (words r))) → PartIs words ws n from to
+  part-is f = record { stands = λ t r p e. f r (placed t r p e) .0; ends = λ t r p e. f r (placed t r p e) .1 }
 
-    numbered : getElem? (x .table) n ≡ some the-rule
-    numbered = names-iff ws (x .table) count n c (x .is) .1 h .1
+  module _ (from to : ℕ) where
+    pub left-is : from ≡ getD index (perRule * n + 0) 0 → to ≡ getD index (perRule * n + 1) 0 → PartIs leftWords ws n from to
+    left-is p q =
+        part-is (λ r o.
+        let a = p ∙ o .numbers 0 (omega arith) in
+        (subst⁻¹ (λ (k : ℕ). Stands ws k (leftWords r)) a (left-stands ws index n r o), q ∙ (o .numbers 1 (omega arith) ∙ ap (λ (k : ℕ). k + length (leftWords r)) (sym a))))
 
-    placed : RulePlaced ws index n the-rule
-    placed = rule-placed ws index (x .table) n the-rule x (x .is) numbered
+    pub right-is : from ≡ getD index (perRule * n + 1) 0 → to ≡ getD index (perRule * n + 2) 0 → PartIs rightWords ws n from to
+    right-is p q =
+        part-is (λ r o.
+        let a = p ∙ o .numbers 1 (omega arith) in
+        (subst⁻¹ (λ (k : ℕ). Stands ws k (rightWords r)) a (right-stands ws index n r o), q ∙ (o .numbers 2 (omega arith) ∙ ap (λ (k : ℕ). k + length (rightWords r)) (sym a))))
 
-    pub number-small : n < 256
-    number-small =
-        let k = named-below (x .table) n the-rule numbered in
-        let f = few-rules (x .table) (x .is .accepted) in
-        omega arith
-
-    pub start-inside : getD index (4 * n) 0 < length ws
-    start-inside = let e = placed .places .first in let s = placed .stands .within in omega arith
-
-    action-word : getD ws (getD index (4 * n) 0) (pos 0) ≡ pos (the-rule .action)
-    action-word = ap (λ (i : ℕ). getD ws i (pos 0)) (placed .places .first) ∙ stands-head (placed .stands) (pos 0)
-
-    pub action-low : naturalOf (getD ws (getD index (4 * n) 0) (pos 0)) < 65536
-    action-low = subst⁻¹ (λ (z : ℤ). naturalOf z < 65536) action-word (good the-rule (rule-okay (x .table) (x .is .accepted) n the-rule numbered) .action)
-
-    pub action-is : ActionIs ws n (naturalOf (getD ws (getD index (4 * n) 0) (pos 0)))
-    action-is =
-        record {
-          is = λ t r p e.
-              let same : getElem? t n ≡ some the-rule = ap (λ (u : Table). getElem? u n) (one-table ws t (x .table) p (x .is)) ∙ numbered in
-              ap naturalOf action-word ∙ ap (λ (q : Rule). q .action) (Option·some-injective the-rule r (sym same ∙ e));
-          other = λ t p e. absurd (Option·none-ne-some (names-iff ws t count n c p .1 h .0) (sym e ∙ names-iff ws t count n c p .1 h .1));
-        }
+    pub conditions-are : from ≡ getD index (perRule * n + 2) 0 → to ≡ getD index (perRule * n + 3) 0 → PartIs conditionsWords ws n from to
+    conditions-are p q =
+        part-is (λ r o.
+        let a = p ∙ o .numbers 2 (omega arith) in
+        (subst⁻¹ (λ (k : ℕ). Stands ws k (conditionsWords r)) a (conditions-stand ws index n r o), q ∙ (o .numbers 3 (omega arith) ∙ ap (λ (k : ℕ). k + length (conditionsWords r)) (sym a))))
 
 -- ---- the order of rules, by position
 up-at : (i k q n : ℕ) → getElem? (upFrom i k) q ≡ some n → i + q ≡ n

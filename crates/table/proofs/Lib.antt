@@ -13,3 +13,4 @@ pub mod ConditionLaw
 pub mod RuleLaw
 pub mod FillLaw
 pub mod IndexLaw
+pub mod KeyLaw

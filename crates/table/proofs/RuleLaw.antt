@@ -20,7 +20,6 @@ use Rattle.table.specs.declared.node.Level.the-variants.{Left, Right}
 use Rattle.table.specs.Number.{naturalOf}
 use Rattle.table.specs.Walk.{partEnd, partSeen}
 use Rattle.table.specs.Rule.{conditionsEnd, RuleAt}
-use Rattle.minuska.specs.Bridge.Place.{rulePlaces}
 use Rattle.table.proofs.BasicLaw.{none-after, refused}
 use Rattle.table.proofs.NumberLaw.{below-not, below-yes}
 use Rattle.table.proofs.TurnLaw.{two-words}
@@ -183,5 +182,4 @@ module _ (ws : List ℤ) (at k : ℕ) (head : Head ws at k) where
           let p = l .ends in
           let q = r .ends in
           let s = c .ends in
-          let places : rulePlaces at rule ≡ at ∷ right ∷ conditions ∷ end ∷ [] = cc in
-          record { rule = rule; read = e; places = places }
+          record { rule = rule; read = e; rightIs = cc; conditionsIs = cc; endIs = cc }

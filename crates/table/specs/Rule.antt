@@ -2,14 +2,14 @@
 use mathlib.Core.Path.{_≡_}
 use mathlib.Core.Bool.{Bool}
 use mathlib.Core.Option.{Option, none, some}
-use mathlib.Core.List.{List, [], _∷_}
+use mathlib.Core.List.{List}
 use Prim.Native.Nat.{ℕ, zero, suc}
 use lib.IntN.{ℤ}
 use lib.ListN.{drop}
 use Rattle.minuska.specs.Basics.{_>>=_}
 use Rattle.minuska.specs.Rule.{Rule}
 use Rattle.minuska.specs.Computed.Read.{readRule}
-use Rattle.minuska.specs.Bridge.Place.{rulePlaces}
+use Rattle.minuska.specs.Bridge.Place.{rightFrom, conditionsFrom, endFrom}
 use Rattle.term.specs.declared.Place.{Place}
 use Rattle.table.specs.declared.node.Level.the-variants.{Expression}
 use Rattle.table.specs.declared.rule.Parts.{Parts}
@@ -29,7 +29,9 @@ pub record ConditionsContract (ws : List ℤ) (at count : ℕ) (seen seen′ : L
 pub record RuleAt (ws : List ℤ) (at right conditions end : ℕ) : Type 0 where
   pub rule : Rule
   pub read : readRule (drop at ws) ≡ some (rule, drop end ws)
-  pub places : rulePlaces at rule ≡ at ∷ right ∷ conditions ∷ end ∷ []
+  pub rightIs : rightFrom at rule ≡ right
+  pub conditionsIs : conditionsFrom at rule ≡ conditions
+  pub endIs : endFrom at rule ≡ end
 
 -- What is found at a place, by the answer.
 abbrev pub RuleIs : List ℤ → ℕ → Parts → Type 0

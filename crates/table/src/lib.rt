@@ -1,6 +1,8 @@
 // The table's check, and the index: where the parts of each rule stand.
 mod expression;
 mod fill;
+pub mod index;
+pub mod key;
 mod node;
 mod number;
 mod rule;
@@ -20,11 +22,11 @@ ghost use Rattle.table.specs.Index.{IndexTableContract};
 pub fn check_table(table: &[i64]) -> Check
     ensures { λ r. ⌜ CheckTableContract (now (table .entry)) r ⌝ }
 {
-    let mut index = [0usize; INDEX_LEN];
+    let mut index = [0u32; INDEX_LEN];
     index_table(table, &mut index)
 }
 
-// The same, and the index: four numbers a rule, its start, its right, its conditions and its end.
+// The same, and the index.
 pub fn index_table(table: &[i64], index: &mut Index) -> Check
     ensures { λ r. ⌜ IndexTableContract (now (table .entry)) (now (index .entry)) (now (index .exit)) r ⌝ }
 {
@@ -48,8 +50,7 @@ pub fn action(table: &[i64], index: &Index, rule: usize) -> u16
     if rule_count(table, index) <= rule {
         return 0;
     }
-    let at = index[4 * rule];
-    natural(term::word(table, at)) as u16
+    index::action(table, index, rule)
 }
 
 // The rule at a position of the order in which rules are tried.

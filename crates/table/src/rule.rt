@@ -1,4 +1,5 @@
 // One rule of a table: where its parts stand, if it is accepted.
+use crate::index::HEADER;
 use crate::node::Level;
 use crate::number::natural;
 use crate::walk::part_end;
@@ -45,10 +46,10 @@ pub fn rule_parts(table: &[i64], at: usize, ranges: &[i64; 32]) -> Parts
     ensures { λ r. ⌜ RuleIs (now (table .entry)) at r ⌝ }
 {
     let n = table.len();
-    if n < 2 {
+    if n < HEADER {
         return Parts::Nowhere;
     }
-    if n - 2 < at {
+    if n - HEADER < at {
         return Parts::Nowhere;
     }
     if 65535 < natural(term::word(table, at)) {
@@ -59,7 +60,7 @@ pub fn rule_parts(table: &[i64], at: usize, ranges: &[i64; 32]) -> Parts
         return Parts::Nowhere;
     }
     let mut seen = [false; 16];
-    let Place::At(right) = part_end(table, at + 2, Level::Left, &mut seen, ranges) else {
+    let Place::At(right) = part_end(table, at + HEADER, Level::Left, &mut seen, ranges) else {
         return Parts::Nowhere;
     };
     let Place::At(conditions) = part_end(table, right, Level::Right, &mut seen, ranges) else {

@@ -1,14 +1,16 @@
 -- Bridges to code: what stands where in a slice of words, where a table's parts stand, and what a check has established.
 use mathlib.Core.Path.{_≡_}
-use mathlib.Core.Bool.{Bool, true, false}
+use mathlib.Core.Bool.{Bool, true, false, cond}
+use mathlib.Core.Logic.{_⊎_}
 use mathlib.Core.Option.{none, some}
 use mathlib.Core.List.{List, [], _∷_, _++_}
-use Prim.Native.Nat.{ℕ, _+_, _-_, _*_, _≤_, _<_}
-use lib.IntN.{ℤ}
+use Prim.Native.Nat.{ℕ, suc, _+_, _-_, _*_, _%_, _≤_, _<_}
+use lib.IntN.{ℤ, pos, negsuc}
 use lib.Dec.{T}
 use lib.ListN.{length, take, drop, getD, getElem?}
-use Rattle.minuska.specs.Term.{Term, single, isGround}
-use Rattle.minuska.specs.Word.{ok, encode}
+use Rattle.minuska.specs.Basics.{sameWhole}
+use Rattle.minuska.specs.Term.{Term, single, termCount, isGround}
+use Rattle.minuska.specs.Word.{tagWord, datumWord, ok, encode}
 use Rattle.minuska.specs.Satisfaction.{Valuation}
 use Rattle.minuska.specs.Rule.{Rule, Table, conditionWords, ruleWords, IsTable, IsConfiguration}
 use Rattle.minuska.specs.Computed.Step.{order}
@@ -43,14 +45,61 @@ pub record BoundAt (config : List ℤ) (start end v : ℕ) (t : Term) : Type 0 w
 pub record Binds (config : List ℤ) (starts ends : List ℕ) (ρ : Valuation) : Type 0 where
   pub places : (v : ℕ) (t : Term) → ρ v ≡ some t → BoundAt config (getD starts v 0) (getD ends v 0) v t
 
--- Where the parts of a rule stand, if the rule starts at a place: the rule (its action), its right, its conditions, and its end.
-abbrev pub rulePlaces : ℕ → Rule → List ℕ
-rulePlaces at r =
-    let right : ℕ = at + 2 + length (encode (single (r .left))) in
-    let conditions : ℕ = right + length (encode (single (r .right))) in
-    at ∷ right ∷ conditions ∷ (conditions + length (conditionWords (r .conditions))) ∷ []
+-- The parts of a rule, as words. In front of them stand its header words: its action and its condition count.
+abbrev pub headerWords : ℕ
+headerWords = 2
 
--- The index of a table: four numbers a rule, the first rule at word 1.
+abbrev pub leftWords : Rule → List ℤ
+leftWords r = encode (single (r .left))
+
+abbrev pub rightWords : Rule → List ℤ
+rightWords r = encode (single (r .right))
+
+abbrev pub conditionsWords : Rule → List ℤ
+conditionsWords r = conditionWords (r .conditions)
+
+-- Where they start, if the rule starts at a place; and where the rule ends.
+abbrev pub leftFrom : ℕ → ℕ
+leftFrom at = at + headerWords
+
+abbrev pub rightFrom : ℕ → Rule → ℕ
+rightFrom at r = leftFrom at + length (leftWords r)
+
+abbrev pub conditionsFrom : ℕ → Rule → ℕ
+conditionsFrom at r = rightFrom at r + length (rightWords r)
+
+abbrev pub endFrom : ℕ → Rule → ℕ
+endFrom at r = conditionsFrom at r + length (conditionsWords r)
+
+-- The key of a node, by its two words: 0 of a variable, and of no other node. Nodes with different keys differ.
+abbrev pub remainder : ℤ → ℕ → ℕ
+remainder (pos n) m = n % m
+remainder (negsuc n) m = 0
+
+unfoldable pub keyOf : ℤ → ℤ → ℕ
+keyOf t d = cond (sameWhole t (pos 3)) 0 (suc (4096 * remainder t 16 + remainder d 4096))
+
+-- A left's root and a configuration's: a variable's, or the same two words. Where they do not meet, the left does not match.
+abbrev pub rootTag : Term → ℤ
+rootTag t = tagWord (t .label) (termCount (t .children))
+
+abbrev pub rootKey : Term → ℕ
+rootKey t = keyOf (rootTag t) (datumWord (t .label))
+
+abbrev pub RootMeets : Term → Term → Type 0
+RootMeets l g = (rootTag l ≡ pos 3) ⊎ ((rootTag l ≡ rootTag g) × (datumWord (l .label) ≡ datumWord (g .label)))
+
+-- THE LAYOUT OF A TABLE'S INDEX: so many numbers a rule, in this order; the first rule stands at word 1.
+abbrev pub perRule : ℕ
+perRule = 6
+
+-- room for 256 rules
+abbrev pub indexLength : ℕ
+indexLength = 1536
+
+abbrev pub rulePlaces : ℕ → Rule → List ℕ
+rulePlaces at r = leftFrom at ∷ rightFrom at r ∷ conditionsFrom at r ∷ endFrom at r ∷ rootKey (r .left) ∷ r .action ∷ []
+
 abbrev pub placesFrom : ℕ → Table → List ℕ
 placesFrom at [] = []
 placesFrom at (r ∷ rs) = rulePlaces at r ++ placesFrom (at + length (ruleWords r)) rs
@@ -62,7 +111,19 @@ places table = placesFrom 1 table
 pub record Indexed (ws : List ℤ) (index : List ℕ) : Type 0 where
   pub table : Table
   pub is : IsTable ws table
-  pub indexed : take (4 * length table) index ≡ places table
+  pub indexed : take (perRule * length table) index ≡ places table
+
+-- a number that names a rule
+pub record Names (ws : List ℤ) (n : ℕ) : Type 0 where
+  pub table : Table
+  pub is : IsTable ws table
+  pub rule : Rule
+  pub numbered : getElem? table n ≡ some rule
+
+-- A part of rule number n stands from one place up to another, in whatever table the words are.
+pub record PartIs (words : Rule → List ℤ) (ws : List ℤ) (n from to : ℕ) : Type 0 where
+  pub stands : (table : Table) (rule : Rule) → IsTable ws table → getElem? table n ≡ some rule → Stands ws from (words rule)
+  pub ends : (table : Table) (rule : Rule) → IsTable ws table → getElem? table n ≡ some rule → to ≡ from + length (words rule)
 
 -- What the routines on checked words say of any table that the words are. Its rule count; the action of a number that names a rule, of any other 0; the
 -- rule at a position of the order in which rules are tried, at any other a number that names no rule.
@@ -76,6 +137,18 @@ pub record ActionIs (ws : List ℤ) (n r : ℕ) : Type 0 where
 pub record OrderedIs (ws : List ℤ) (i r : ℕ) : Type 0 where
   pub is : (table : Table) → IsTable ws table → (n : ℕ) → getElem? (order table) i ≡ some n → r ≡ n
   pub other : (table : Table) → IsTable ws table → getElem? (order table) i ≡ none → getElem? table r ≡ none
+
+-- A number of positions of that order. From a position on, up to another, the left of every rule there is seen not to match at its root.
+pub record Positions (ws : List ℤ) (to : ℕ) : Type 0 where
+  pub there : (table : Table) → IsTable ws table → to ≤ length (order table)
+
+pub record RootsPassed (ws cs : List ℤ) (from to : ℕ) : Type 0 where
+  pub differ : (table : Table) (rule : Rule) (g : Term) (i n : ℕ) → IsTable ws table → IsConfiguration cs g → from ≤ i → i < to → getElem? (order table) i ≡ some n → getElem? table n ≡ some rule → RootMeets (rule .left) g → ⊥
+
+pub record SeekIs (ws cs : List ℤ) (from to r : ℕ) : Type 0 where
+  pub low : from ≤ r
+  pub high : r ≤ to
+  pub passed : RootsPassed ws cs from r
 
 -- What the configuration's check establishes.
 pub record Accepted (ws : List ℤ) : Type 0 where

@@ -2,7 +2,7 @@
 use mathlib.Core.Path.{_≡_, refl, ap, _∙_, subst}
 use mathlib.Core.Option.{none}
 use mathlib.Core.List.{List}
-use Prim.Native.Nat.{ℕ, _+_, _-_}
+use Prim.Native.Nat.{ℕ, _-_, _≤_}
 use native.Mathlib.Omega.{arith}
 use lib.IntN.{ℤ}
 use lib.ListN.{length}
@@ -10,15 +10,16 @@ use borrow.Author.Needs.{needs}
 use Rattle.minuska.specs.Term.{Term}
 use Rattle.minuska.specs.Rule.{Table, IsTable, IsConfiguration}
 use Rattle.minuska.specs.Computed.Step.{successorBy}
-use Rattle.step.specs.Apply.{Names, SomeMatched, JudgeIs}
-use Rattle.step.specs.Among.{Positions, AmongIs}
+use Rattle.minuska.specs.Bridge.Place.{Names}
+use Rattle.step.specs.Apply.{SomeMatched, JudgeIs}
+use Rattle.step.specs.Among.{AmongIs}
 use Rattle.step.proofs.AmongLaw.{position-names, judged-none, judged-matched, Trying, trying-first, trying-on, none-applies, one-applies}
 use Rattle.step.proofs.apply_among.Statement.{statement}
 use Rattle.step.proofs.apply_among.Tie as tie
 
 abbrev Inv-loop : tie.InvT-loop
 Inv-loop table index configuration first from to out₀ starts₀ ends₀ rule₀ i₀ out starts ends rule i =
-    (out ≡ out₀) × Names table rule × Positions table i to × Trying table configuration first from to rule i
+    (out ≡ out₀) × Names table rule × (i ≤ to) × Trying table configuration first from to rule i
 
 abbrev μ-loop : tie.MeasureT-loop
 μ-loop table index configuration first from to out₀ starts₀ ends₀ rule₀ i₀ out starts ends rule i = to - i
@@ -64,7 +65,7 @@ module _ (k : tie.After-seek Inv-loop μ-loop) where
       judged-none (ws last) (cs last) (turn last .loop .rule) (turn last .loop .inv .1) (starts last) (ends last) (last .before .judge .result) (judged last) (last .applies .ensures .no (k .before .if1 .left))
 
 loop-holds : tie.Need-loop-holds Inv-loop μ-loop
-loop-holds c = (refl, c .pre .1 .0, c .pre .1 .1, trying-first (c .args .table .now) (c .args .configuration .now) (c .args .first) (c .args .from) (c .args .to))
+loop-holds c = (refl, c .pre .1 .0, c .pre .1 .2, trying-first (c .args .table .now) (c .args .configuration .now) (c .args .first) (c .args .from) (c .args .to))
 
 judge-requires : tie.Need-judge-requires Inv-loop μ-loop
 judge-requires c κs = let l = c .before .before in (l .before .pre .0 .0, l .before .pre .0 .1, l .loop .inv .1)
@@ -92,7 +93,7 @@ returns c =
     (one-applies (ws b) (cs b) (s .args .first) (s .args .from) (s .args .to) (l .loop .rule) (l .loop .i) (l .loop .inv .3) (l .loop .inv .1) (starts b) (ends b) (b .before .judge .result) (judged b) (b .applies .ensures .yes (t .if1 .taken)) (l .loop .out) (w .write-within .last .1 .1 .1 .1 .1 .1 .0) (w .write-within .result) (w .write-within .ensures))
 
 seek-requires : tie.Need-seek-requires Inv-loop μ-loop
-seek-requires c κs = let l = turn (c .before) in (l .before .pre .0 .0, l .before .pre .0 .1, l .loop .inv .2)
+seek-requires c κs = let l = turn (c .before) in (l .before .pre .0 .0, l .before .pre .0 .1, l .before .pre .1 .1, l .loop .inv .2)
 
 same-length-2 : tie.Need-same-length-2 Inv-loop μ-loop
 same-length-2 c = let l = turn (last (c .before)) in ap length (l .loop .inv .0)
@@ -103,7 +104,7 @@ returns-2 c =
     let b = last k in
     let l = turn b in
     let s = start b in
-    rw (l .loop .inv .0) (none-applies (ws b) (cs b) (s .args .first) (s .args .from) (s .args .to) (l .loop .rule) (l .loop .i) (l .loop .inv .3) (none-here k) (k .seek .result) (k .seek .ensures) (s .args .out .now) (c .if2 .taken))
+    rw (l .loop .inv .0) (none-applies (ws b) (cs b) (s .args .first) (s .args .from) (s .args .to) (l .loop .rule) (l .loop .i) (l .loop .inv .3) (none-here k) (k .seek .result) (k .seek .ensures) (s .pre .1 .1) (s .args .out .now) (c .if2 .taken))
 
 ordered-requires : tie.Need-ordered-requires Inv-loop μ-loop
 ordered-requires c κs = start (last (c .before)) .pre .0 .0
@@ -112,7 +113,7 @@ add-i : tie.Need-add-i Inv-loop μ-loop
 add-i c = let h = c .before .if2 .left in omega arith
 
 loop-less : tie.Need-loop-less Inv-loop μ-loop
-loop-less c = let h = c .before .if2 .left in let f = c .before .before .seek .ensures .forward in omega arith
+loop-less c = let h = c .before .if2 .left in let f = c .before .before .seek .ensures .low in omega arith
 
 loop-again : tie.Need-loop-again Inv-loop μ-loop
 loop-again c =
@@ -122,9 +123,9 @@ loop-again c =
     let s = start b in
     let h = c .before .if2 .left in (
       l .loop .inv .0,
-      position-names (s .pre .0 .0) (l .loop .inv .2) h (c .ordered .ensures),
-      record { inOrder = omega arith; within = l .loop .inv .2 .within },
-      trying-on (ws b) (cs b) (s .args .first) (s .args .from) (s .args .to) (l .loop .rule) (l .loop .i) (l .loop .inv .3) (none-here k) (k .seek .result) (k .seek .ensures) (c .ordered .result) (l .loop .inv .2) h (c .ordered .ensures),
+      position-names (s .pre .0 .0) (s .pre .1 .1) h (c .ordered .ensures),
+      omega arith,
+      trying-on (ws b) (cs b) (s .args .first) (s .args .from) (s .args .to) (l .loop .rule) (l .loop .i) (l .loop .inv .3) (none-here k) (k .seek .result) (k .seek .ensures) (s .pre .1 .1) (c .ordered .result) h (c .ordered .ensures),
     )
 
 pub apply-among-spec : {M : Type 1} → statement M

@@ -1,26 +1,25 @@
 -- `apply_earliest` meets its contract: the positions before the first that is sought are passed over, and from there on the rules are tried.
 use native.Mathlib.Omega.{arith}
 use borrow.Author.Needs.{needs}
-use Rattle.step.specs.Among.{Positions, SeekIs}
-use Rattle.step.proofs.AmongLaw.{position-names, all-positions, none-at-all, the-earliest}
+use Rattle.minuska.specs.Bridge.Place.{Positions}
+use Rattle.table.proofs.IndexLaw.{positions-of}
+use Rattle.step.proofs.AmongLaw.{position-names, none-at-all, the-earliest}
 use Rattle.step.proofs.apply_earliest.Statement.{statement}
 use Rattle.step.proofs.apply_earliest.Tie as tie
 
--- all positions, from any on
+-- every position
 module _ (r : tie.After-rule-count) where
   abbrev start : tie.Start
   start = r .before
 
-  every : Positions (start .args .table .now) 0 (r .rule-count .result)
-  every =
-      let a = start .args in
-      all-positions (a .table .now) (a .configuration .now) (a .index .now) (a .out .now) (start .pre .0) (start .pre .1) (r .rule-count .result) (r .rule-count .ensures) 0 (omega arith)
+  every : Positions (start .args .table .now) (r .rule-count .result)
+  every = positions-of (start .args .table .now) (r .rule-count .result) (r .rule-count .result) (r .rule-count .ensures) (omega arith)
 
 rule-count-requires : tie.Need-rule-count-requires
 rule-count-requires c κs = search needs
 
 seek-requires : tie.Need-seek-requires
-seek-requires c κs = (start c .pre .0, start c .pre .1, every c)
+seek-requires c κs = (start c .pre .0, start c .pre .1, every c, omega arith)
 
 returns : tie.Need-returns
 returns c =
@@ -42,7 +41,7 @@ apply-among-requires c κs =
     let e = o .before in
     let r = e .before .before in
     let s = start r in
-    ((s .pre .0, s .pre .1), (position-names (s .pre .0) (every r) (e .if1 .left) (o .ordered .ensures), record { inOrder = let h = e .if1 .left in omega arith; within = every r .within }))
+    ((s .pre .0, s .pre .1), (position-names (s .pre .0) (every r) (e .if1 .left) (o .ordered .ensures), every r, let h = e .if1 .left in omega arith))
 
 same-length : tie.Need-same-length
 same-length c = search needs

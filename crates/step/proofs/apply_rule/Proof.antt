@@ -22,7 +22,7 @@ apply-among-requires c κs =
     let s = r .before in
     let a = s .args in
     let n = below-names (a .table .now) (a .configuration .now) (a .index .now) (a .out .now) (s .pre .0) (s .pre .1) (a .rule) (r .rule-count .result) (r .rule-count .ensures) (e .if1 .left) in
-    ((s .pre .0, s .pre .1), (n, record { inOrder = omega arith; within = λ t p. omega arith }))
+    ((s .pre .0, s .pre .1), (n, record { there = λ t p. omega arith }, omega arith))
 
 same-length : tie.Need-same-length
 same-length c = search needs

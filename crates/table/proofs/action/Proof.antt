@@ -1,61 +1,22 @@
 use borrow.Author.Needs.{needs}
-use mathlib.Core.Path.{_≡_, _∙_, ap, subst⁻¹}
-use Prim.Native.Nat.{_*_, _<_}
-use native.Mathlib.Omega.{arith}
-use lib.IntN.{pos}
-use lib.ListN.{getD}
-use mir.Val.{SFits}
-use mir.Syntax.{w64}
-use Rattle.table.specs.Number.{naturalOf}
-use Rattle.minuska.specs.Bridge.Place.{ActionIs}
-use Rattle.table.proofs.NumberLaw.{via}
-use Rattle.table.proofs.IndexLaw.{no-rule, number-small, start-inside, action-low, action-is}
+use Rattle.table.proofs.IndexLaw.{no-rule, names-below}
 use Rattle.table.proofs.action.Statement.{statement}
 use Rattle.table.proofs.action.Tie as tie
-
-small : (c : tie.Else1) → c .before .before .args .rule < 256
-small c = number-small (c .before .before .args .table .now) (c .before .before .args .index .now) (c .before .before .pre) (c .before .rule-count .result) (c .before .rule-count .ensures) (c .before .before .args .rule) (c .if1 .left)
-
-number-is : (c : tie.After-natural) → c .natural .result ≡ naturalOf (getD (c .before .before .before .before .before .args .table .now) (getD (c .before .before .before .before .before .args .index .now) (4 * c .before .before .before .before .before .args .rule) 0) (pos 0))
-number-is c = let f : SFits w64 (c .before .word .result) = search needs in via naturalOf f (c .natural .ensures) ∙ ap naturalOf (c .before .word .ensures)
 
 rule-count-requires : tie.Need-rule-count-requires
 rule-count-requires c κs = search needs
 
 returns : tie.Need-returns
-returns c = no-rule (c .before .before .args .table .now) (c .before .before .args .index .now) (c .before .before .pre) (c .before .rule-count .result) (c .before .rule-count .ensures) (c .before .before .args .rule) (c .if1 .taken)
+returns c = no-rule (c .before .before .args .table .now) (c .before .rule-count .result) (c .before .rule-count .ensures) (c .before .before .args .rule) (c .if1 .taken)
 
-mul-at : tie.Need-mul-at
-mul-at c = let h = small c in omega arith
-
-mul-at-2 : tie.Need-mul-at-2
-mul-at-2 c = let h = small c in omega arith
-
-element-copy-out-at : tie.Need-element-copy-out-at
-element-copy-out-at c = let h = small c in omega arith
-
-word-requires : tie.Need-word-requires
-word-requires c κs = start-inside (c .before .before .before .args .table .now) (c .before .before .before .args .index .now) (c .before .before .before .pre) (c .before .before .rule-count .result) (c .before .before .rule-count .ensures) (c .before .before .before .args .rule) (c .before .if1 .left)
-
-natural-requires : tie.Need-natural-requires
-natural-requires c κs = search needs
-
-cast-result : tie.Need-cast-result
-cast-result c = let e = number-is c in let h = action-low (c .before .before .before .before .before .args .table .now) (c .before .before .before .before .before .args .index .now) (c .before .before .before .before .before .pre) (c .before .before .before .before .rule-count .result) (c .before .before .before .before .rule-count .ensures) (c .before .before .before .before .before .args .rule) (c .before .before .before .if1 .left) in omega arith
+action-requires : tie.Need-action-requires
+action-requires c κs =
+    let r = c .before in
+    let s = r .before in
+    (s .pre, names-below (s .args .table .now) (s .args .index .now) (s .pre) (r .rule-count .result) (r .rule-count .ensures) (s .args .rule) (c .if1 .left))
 
 returns-2 : tie.Need-returns-2
-returns-2 c = subst⁻¹ (ActionIs (c .before .before .before .before .before .args .table .now) (c .before .before .before .before .before .args .rule)) (number-is c) (action-is (c .before .before .before .before .before .args .table .now) (c .before .before .before .before .before .args .index .now) (c .before .before .before .before .before .pre) (c .before .before .before .before .rule-count .result) (c .before .before .before .before .rule-count .ensures) (c .before .before .before .before .before .args .rule) (c .before .before .before .if1 .left))
+returns-2 c = search needs
 
 pub action-spec : {M : Type 1} → statement M
-action-spec =
-    tie.close
-    (tie.spec
-    rule-count-requires
-    returns
-    mul-at
-    mul-at-2
-    element-copy-out-at
-    word-requires
-    natural-requires
-    cast-result
-    returns-2)
+action-spec = tie.close (tie.spec rule-count-requires returns action-requires returns-2)

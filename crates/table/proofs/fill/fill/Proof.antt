@@ -1,5 +1,5 @@
 use mathlib.Core.Path.{_≡_, refl, _∙_, ap, subst, subst⁻¹}
-use mathlib.Core.List.{List, [], _∷_}
+use mathlib.Core.List.{List}
 use Prim.Native.Nat.{ℕ, _+_, _-_, _*_}
 use native.Mathlib.Omega.{arith}
 use lib.IntN.{pos}
@@ -8,10 +8,12 @@ use lib.Seq.{length-sets}
 use mir.Val.{SFits}
 use mir.Syntax.{w64}
 use borrow.Author.Needs.{needs}
+use Rattle.minuska.specs.Bridge.Place.{perRule}
 use Rattle.table.specs.Number.{naturalOf}
 use Rattle.table.specs.Rule.{RuleIs}
+use Rattle.table.specs.Index.{rowOf}
 use Rattle.table.proofs.NumberLaw.{via}
-use Rattle.table.proofs.FillLaw.{Reached, refused-empty, refused-long, refused-count, starts, refused-rule, goes-on, refused-rest, accepted}
+use Rattle.table.proofs.FillLaw.{Reached, refused-empty, refused-long, refused-count, starts, refused-rule, goes-on, row-fits, refused-rest, accepted}
 use Rattle.table.proofs.fill.fill.Statement.{statement}
 use Rattle.table.proofs.fill.fill.Tie as tie
 
@@ -75,7 +77,9 @@ put-requires c κs =
     let a = r .long in
     let b = r .few in
     let h = c .before .before .before .before .before .loop-test .taken in
-    omega arith
+    let t = c .before .before .right in
+    let ws = c .before .before .before .before .before .before .before .before .before .before .before .before .before .args .table .now in
+    (omega arith, row-fits ws (l .at) (t .given .0 .0) (t .given .0 .1 .0) (t .given .0 .1 .1 .0) (subst (RuleIs ws (l .at)) (t .given .1) (c .before .before .before .before .rule-parts .ensures)) (r .short))
 
 add-rule : tie.Need-add-rule Inv-loop μ-loop
 add-rule c = search needs
@@ -93,7 +97,7 @@ loop-again c =
     let end = c .before .before .before .before .before .right .given .0 .1 .1 .0 in
     let count = c .before .before .before .before .before .before .before .before .before .before .before .natural .result in
     let e = c .before .before .put .ensures in (
-      ap length e ∙ (length-sets (l .index) (4 * l .rule) (l .at ∷ right ∷ conditions ∷ end ∷ []) ∙ l .inv .0),
+      ap length e ∙ (length-sets (l .index) (perRule * l .rule) (rowOf ws (l .at) right conditions end) ∙ l .inv .0),
       subst⁻¹ (λ (x : List ℕ). Reached ws old x count (l .rule + 1) end) e
           (goes-on ws old (l .index) count (l .rule) (l .at) (l .inv .1) (c .before .before .before .before .before .before .before .before .loop-test .taken) right conditions end (subst (RuleIs ws (l .at)) (c .before .before .before .before .before .right .given .1) (c .before .before .before .before .before .before .before .rule-parts .ensures))),
     )

@@ -1,0 +1,84 @@
+-- Keys: the key that `key` computes; the rules that `seek` passes over.
+use mathlib.Core.Path.{_≡_, refl, sym, _∙_, ap, ap₂, subst⁻¹}
+use mathlib.Core.Bool.{Bool, cond}
+use mathlib.Core.Logic.{_⊎_, inl, inr}
+use mathlib.Core.Option.{some}
+use mathlib.Core.List.{List}
+use Prim.Native.Nat.{ℕ, suc, _+_, _*_, _%_, _^_, _≤_, _<_}
+use native.Mathlib.Nat.{mod-lt}
+use native.Mathlib.Decide.{ℕ-discrete}
+use native.Mathlib.Omega.{arith}
+use lib.IntN.{ℤ, pos, negsuc}
+use lib.ListN.{length, getD, getElem?}
+use borrow.Author.Tests.{ne-eqb}
+use Rattle.minuska.specs.Term.{Term}
+use Rattle.minuska.specs.Word.{datumWord}
+use Rattle.minuska.specs.Rule.{Rule, Table, IsTable, IsConfiguration}
+use Rattle.minuska.specs.Computed.Step.{order}
+use Rattle.minuska.specs.Bridge.Place.{keyOf, rootTag, rootKey, RootMeets, perRule, Indexed, OrderedIs, Positions, RootsPassed, Accepted}
+use Rattle.minuska.proofs.Bridge.IndexLaw.{rule-placed}
+use Rattle.minuska.proofs.Bridge.PositionLaw.{element-at, few-rules, order-length, order-names}
+use Rattle.table.specs.Number.{naturalOf}
+
+-- ---- what `key` answers
+pub key-variable : (t d : ℤ) → naturalOf t ≡ 3 → 0 ≡ keyOf t d
+unfolding keyOf
+key-variable (pos n) d e = rw e refl
+key-variable (negsuc n) d e = absurd (let f : ⊥ = omega arith in f)
+
+abbrev pub keyNumber : ℕ → ℕ → ℕ
+keyNumber t d = 4096 * (t % 16) + d % 4096 + 1
+
+pub key-other : (t d : ℤ) → (naturalOf t ≡ 3 → ⊥) → keyNumber (naturalOf t) (naturalOf d) ≡ keyOf t d
+unfolding keyOf
+key-other (pos n) (pos m) f = rw (ne-eqb n 3 f) (omega arith)
+key-other (pos n) (negsuc m) f = rw (ne-eqb n 3 f) (omega arith)
+key-other (negsuc n) (pos m) f = omega arith
+key-other (negsuc n) (negsuc m) f = refl
+
+pub key-fits : (t d : ℕ) → keyNumber t d < 2 ^ 32
+key-fits t d = let a : t % 16 < 16 = mod-lt t (omega arith) in let b : d % 4096 < 4096 = mod-lt d (omega arith) in omega arith
+
+-- ---- what `seek` passes over
+variable-key : (d : ℤ) → keyOf (pos 3) d ≡ 0
+unfolding keyOf
+variable-key d = refl
+
+root-keys : (l g : Term) → (rootKey l ≡ 0 → ⊥) → (rootKey l ≡ rootKey g → ⊥) → RootMeets l g → ⊥
+root-keys l g f h (inl e) = f (ap (λ (t : ℤ). keyOf t (datumWord (l .label))) e ∙ variable-key (datumWord (l .label)))
+root-keys l g f h (inr e) = h (ap₂ keyOf (e .0) (e .1))
+
+-- the configuration has a root
+pub root-there : {cs : List ℤ} → Accepted cs → 2 ≤ length cs
+root-there a = omega (arith, ap length (a .is .words))
+
+module _ (ws cs : List ℤ) (index : List ℕ) (x : Indexed ws index) where
+  -- a position names a rule
+  pub position-small : (to i n : ℕ) → Positions ws to → i < to → OrderedIs ws i n → n < 256
+  position-small to i n p h o =
+      let t = x .table in
+      let k = p .there t (x .is) in
+      let b : i < length (order t) = omega arith in
+      let e = o .is t (x .is) (getD (order t) i 0) (element-at (order t) 0 i b) in
+      let l = order-names t i b in
+      let f = few-rules t (x .is .accepted) in
+      omega arith
+
+  module _ (from : ℕ) where
+    pub none-passed : RootsPassed ws cs from from
+    none-passed = record { differ = λ t r g i n p q h k e f m. let z : ⊥ = omega arith in z }
+
+    pub passes : (i n k root : ℕ) → OrderedIs ws i n → k ≡ getD index (perRule * n + 4) 0 → root ≡ keyOf (getD cs 0 (pos 0)) (getD cs 1 (pos 0)) → (k ≡ root → ⊥) → (k ≡ 0 → ⊥) → RootsPassed ws cs from i → RootsPassed ws cs from (i + 1)
+    passes i n k root o ek er f z past = record { differ = λ t r g j m p q lo hi e u. pick t r g j m p q lo hi e u (ℕ-discrete j i) }
+      where
+        here : (t : Table) (r : Rule) (g : Term) → IsTable ws t → IsConfiguration cs g → getElem? t n ≡ some r → RootMeets (r .left) g → ⊥
+        here t r g p q u =
+            let a : k ≡ rootKey (r .left) = ek ∙ rule-placed ws index t n r x p u .numbers 4 (omega arith) in
+            let b : root ≡ rootKey g = er ∙ ap (λ (c : List ℤ). keyOf (getD c 0 (pos 0)) (getD c 1 (pos 0))) (sym (q .words)) in
+            root-keys (r .left) g (λ y. z (a ∙ y)) (λ y. f (a ∙ (y ∙ sym b)))
+
+        pick : (t : Table) (r : Rule) (g : Term) (j m : ℕ) → IsTable ws t → IsConfiguration cs g → from ≤ j → j < i + 1 → getElem? (order t) j ≡ some m → getElem? t m ≡ some r → Dec (j ≡ i) → RootMeets (r .left) g → ⊥
+        pick t r g j m p q lo hi e u (yes d) =
+            let w : n ≡ m = o .is t p m (ap (λ (y : ℕ). getElem? (order t) y) (sym d) ∙ e) in
+            here t r g p q (ap (λ (y : ℕ). getElem? t y) w ∙ u)
+        pick t r g j m p q lo hi e u (no d) = past .differ t r g j m p q lo (omega arith) e u

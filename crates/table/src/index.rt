@@ -1,0 +1,140 @@
+// The layout of the index: a row of numbers a rule. They say where its parts stand, and hold the key of its left's root and its action.
+use crate::key::key;
+use crate::number::natural;
+use minuska::Index;
+use minuska::PER_RULE;
+ghost use mathlib.Core.Path.{_≡_};
+ghost use mathlib.Core.List.{[], _∷_};
+ghost use Prim.Native.Nat.{_+_, _*_, _<_, _≤_};
+ghost use lib.ListN.{length, getD};
+ghost use lib.Seq.{sets};
+ghost use Rattle.minuska.specs.Bridge.Place.{perRule, Indexed, Names, leftWords, rightWords, conditionsWords, PartIs, ActionIs};
+ghost use Rattle.table.specs.Index.{rowOf, RowFits};
+
+// A rule's header words, in front of its left: its action and its condition count.
+pub const HEADER: usize = 2;
+
+// The columns of a row: the starts of the rule's left, right and conditions, its end, the key of its left's root, its action.
+pub const LEFT: usize = 0;
+
+pub const RIGHT: usize = 1;
+
+pub const CONDITIONS: usize = 2;
+
+pub const END: usize = 3;
+
+pub const KEY: usize = 4;
+
+pub const ACTION: usize = 5;
+
+// A part of a rule: the words of a table from one place up to another.
+pub struct Span {
+    pub from: usize,
+    pub to: usize,
+}
+
+// A number of a rule's row.
+pub fn number(index: &Index, rule: usize, column: usize) -> usize
+    requires { ⌜ (rule < 256) × (column < perRule) ⌝ }
+    ensures { λ r. ⌜ r ≡ getD (now (index .entry)) (perRule * rule + column) 0 ⌝ }
+{
+    wide(index[PER_RULE * rule + column])
+}
+
+fn wide(x: u32) -> usize
+    ensures { λ r. ⌜ r ≡ x ⌝ }
+{
+    x as usize
+}
+
+// Writes a rule's row.
+fn store(
+    index: &mut [u32],
+    rule: usize,
+    left: u32,
+    right: u32,
+    conditions: u32,
+    end: u32,
+    key: u32,
+    action: u32,
+)
+    requires { ⌜ perRule * rule + perRule ≤ length (now index) ⌝ }
+    ensures { λ _. ⌜ now (index .exit) ≡ sets (now (index .entry)) (perRule * rule) (left ∷ right ∷ conditions ∷ end ∷ key ∷ action ∷ []) ⌝ }
+{
+    let row = PER_RULE * rule;
+    index[row + LEFT] = left;
+    index[row + RIGHT] = right;
+    index[row + CONDITIONS] = conditions;
+    index[row + END] = end;
+    index[row + KEY] = key;
+    index[row + ACTION] = action;
+}
+
+// Writes the row of a rule that starts at a place, from where its parts stand.
+pub fn put(
+    table: &[i64],
+    index: &mut [u32],
+    rule: usize,
+    at: usize,
+    right: usize,
+    conditions: usize,
+    end: usize,
+)
+    requires { ⌜ (perRule * rule + perRule ≤ length (now index)) × RowFits (now table) at right conditions end ⌝ }
+    ensures { λ _. ⌜ now (index .exit) ≡ sets (now (index .entry)) (perRule * rule) (rowOf (now (table .entry)) at right conditions end) ⌝ }
+{
+    let left = at + HEADER;
+    let root = key(term::word(table, left), term::word(table, left + 1));
+    let action = natural(term::word(table, at));
+    store(
+        index,
+        rule,
+        left as u32,
+        right as u32,
+        conditions as u32,
+        end as u32,
+        root,
+        action as u32,
+    );
+}
+
+// The left of a rule.
+pub fn left(table: &[i64], index: &Index, rule: usize) -> Span
+    requires { ⌜ Indexed (now table) (now index) × Names (now table) rule ⌝ }
+    ensures { λ r. ⌜ PartIs leftWords (now (table .entry)) rule (r .from) (r .to) ⌝ }
+{
+    Span {
+        from: number(index, rule, LEFT),
+        to: number(index, rule, RIGHT),
+    }
+}
+
+// Its right.
+pub fn right(table: &[i64], index: &Index, rule: usize) -> Span
+    requires { ⌜ Indexed (now table) (now index) × Names (now table) rule ⌝ }
+    ensures { λ r. ⌜ PartIs rightWords (now (table .entry)) rule (r .from) (r .to) ⌝ }
+{
+    Span {
+        from: number(index, rule, RIGHT),
+        to: number(index, rule, CONDITIONS),
+    }
+}
+
+// Its conditions.
+pub fn conditions(table: &[i64], index: &Index, rule: usize) -> Span
+    requires { ⌜ Indexed (now table) (now index) × Names (now table) rule ⌝ }
+    ensures { λ r. ⌜ PartIs conditionsWords (now (table .entry)) rule (r .from) (r .to) ⌝ }
+{
+    Span {
+        from: number(index, rule, CONDITIONS),
+        to: number(index, rule, END),
+    }
+}
+
+// Its action.
+pub fn action(table: &[i64], index: &Index, rule: usize) -> u16
+    requires { ⌜ Indexed (now table) (now index) × Names (now table) rule ⌝ }
+    ensures { λ r. ⌜ ActionIs (now (table .entry)) rule r ⌝ }
+{
+    number(index, rule, ACTION) as u16
+}
