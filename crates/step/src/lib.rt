@@ -113,7 +113,7 @@ fn write_within<'a>(
             rule::write_successor(table, index, rule, configuration, starts, ends, out);
             StepAnswer::Stepped {
                 rule,
-                action: table::action(table, index, rule),
+                action: table::index::action(table, index, rule),
                 nodes: n / 2,
             }
         }
