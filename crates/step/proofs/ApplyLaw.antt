@@ -1,8 +1,8 @@
 -- One rule at one configuration, put together: what each way out of `try_rule` says of the outcome.
 use mathlib.Core.Path.{_≡_, refl, sym, _∙_, ap, subst}
-use mathlib.Core.Bool.{Bool, true, false, cond, true≢false}
-use mathlib.Core.Logic.{_⊎_, inl, inr, ⊎-elim}
-use mathlib.Core.Option.{Option, none, some}
+use mathlib.Core.Bool.{Bool, true, false, cond}
+use mathlib.Core.Logic.{_⊎_, inl, inr, ⊎-elim, _↔_}
+use mathlib.Core.Option.{Option, none, some, Option·none-ne-some}
 use mathlib.Core.List.{List, [], _∷_}
 use Prim.Native.Nat.{ℕ, zero, suc, _*_, _/_, _≤_, _<_}
 use native.Mathlib.Omega.{arith}
@@ -10,7 +10,7 @@ use lib.IntN.{ℤ}
 use lib.Dec.{leb}
 use lib.ListN.{length, getElem?}
 use borrow.Author.Tests.{le-leb, lt-leb, leb-true, leb-false}
-use Rattle.minuska.specs.Basics.{_>>=_, present}
+use Rattle.minuska.specs.Basics.{_>>=_}
 use Rattle.minuska.specs.Term.{Term, single, nodeCount}
 use Rattle.minuska.specs.Word.{encode}
 use Rattle.minuska.specs.Satisfaction.{Valuation}
@@ -37,7 +37,16 @@ use Rattle.minuska.proofs.MatchLaw.{match-sound, matches-binds}
 use Rattle.minuska.proofs.ConditionLaw.{has-value}
 use Rattle.step.specs.declared.right.Fit.{Fit}
 use Rattle.step.specs.declared.right.Fit.the-variants.{Words, TooLarge}
-use Rattle.step.specs.Apply.{RuleAt, Matched, fitOf, instantiatedAs, instantiatedOut}
+use Rattle.step.specs.declared.passed.Passed.{Passed}
+use Rattle.step.specs.declared.passed.Passed.the-variants.{All, Until}
+use Rattle.step.specs.declared.rule.Verdict.{Verdict}
+use Rattle.step.specs.declared.rule.Verdict.the-variants.{Misfit, Fails, Applies}
+use Rattle.step.specs.Compare.{Comparison, agreed, apart, comparison, passedBy, boundBy}
+use Rattle.step.specs.Conditions.{allOf, heldBy}
+use Rattle.step.specs.Apply.{Candidate, fitOf, instantiatedAs, instantiatedOut, verdictHeld, verdictBy, verdictOf}
+use Rattle.step.proofs.CompareLaw.{compare-match}
+use Rattle.step.proofs.ConditionsLaw.{held-all}
+use Rattle.step.proofs.MatchingAnswer.{ground-good}
 
 -- ---- the measure, in nodes
 module _ (limit : ℕ) (h : Term) where
@@ -87,65 +96,63 @@ module _ (ws cs : List ℤ) (n : ℕ) (out : List ℤ) where
       (on-words ws cs t g p q (λ u h. gives (stepByRule u (outLimit (length out)) n h)) ∙
       ap {B = Outcome StepResult} gives (step-by-rule-is t (outLimit (length out)) n g))
 
-  pub no-successor : (t : Table) (g : Term) → IsTable ws t → IsConfiguration cs g → successorBy t n g ≡ none → StepByRuleContract ws cs n out out S.Stuck
-  unfolding stepAnswer stepOut
-  no-successor t g p q e =
-      let o : ruleOutcome ws cs n (length out) ≡ gives stuck = outcome-by t g p q ∙ ap (λ (s : Option Term). gives (answered t (outLimit (length out)) (withNumber n s))) e in
-      step-by-rule-contract ws cs n out out S.Stuck (ap stepAnswer (sym o)) (ap (λ (x : Outcome StepResult). stepOut x out) (sym o))
-
-  pub the-successor : (rule : Rule) (g h : Term) → RuleAt ws cs n rule g → successor rule g ≡ some h → (out′ : List ℤ) (r : StepAnswer) →
-      r ≡ instantiatedAs (outLimit (length out)) n (rule .action) h → out′ ≡ instantiatedOut (outLimit (length out)) h out → StepByRuleContract ws cs n out out′ r
-  unfolding stepAnswer stepOut instantiatedAs instantiatedOut
-  the-successor rule g h a e out′ r x y =
-      let t = a .table in
-      let limit = outLimit (length out) in
-      let s : successorBy t n g ≡ some h = ap (λ (z : Option Rule). z >>= λ q. successor q g) (a .numbered) ∙ e in
-      let o : ruleOutcome ws cs n (length out) ≡ gives (sized limit n (rule .action) h) =
-      outcome-by t g (a .is) (a .configuration) ∙
-      (ap (λ (z : Option Term). gives (answered t limit (withNumber n z))) s ∙ ap (λ (z : Option Rule). gives (sized limit n (actionIn z) h)) (a .numbered)) in
-      step-by-rule-contract ws cs n out out′ r (x ∙ (by-size limit (leb (nodeCount h) limit) ∙ ap stepAnswer (sym o))) (y ∙ (by-out limit (leb (nodeCount h) limit) ∙ ap (λ (z : Outcome StepResult). stepOut z out) (sym o)))
+-- ---- an answer with a successor
+module _ (limit n a : ℕ) (h : Term) (out : List ℤ) where
+  pub instantiated-answer : instantiatedAs limit n a h ≡ stepAnswer (gives (sized limit n a h))
+  unfolding instantiatedAs stepAnswer
+  instantiated-answer = pick (leb (nodeCount h) limit)
     where
-      by-size : (limit : ℕ) (b : Bool) → cond b (S.Stepped n (rule .action) (nodeCount h)) (S.Refused OverLimit) ≡ stepAnswer (gives (cond b (stepped n (rule .action) h) tooLarge))
-      by-size limit true = refl
-      by-size limit false = refl
+      pick : (b : Bool) → cond b (S.Stepped n a (nodeCount h)) (S.Refused OverLimit) ≡ stepAnswer (gives (cond b (stepped n a h) tooLarge))
+      pick true = refl
+      pick false = refl
 
-      by-out : (limit : ℕ) (b : Bool) → cond b (write (encode (single h)) out) out ≡ stepOut (gives (cond b (stepped n (rule .action) h) tooLarge)) out
-      by-out limit true = refl
-      by-out limit false = refl
+  pub instantiated-out : instantiatedOut limit h out ≡ stepOut (gives (sized limit n a h)) out
+  unfolding instantiatedOut stepOut
+  instantiated-out = pick (leb (nodeCount h) limit)
+    where
+      pick : (b : Bool) → cond b (write (encode (single h)) out) out ≡ stepOut (gives (cond b (stepped n a h) tooLarge)) out
+      pick true = refl
+      pick false = refl
 
 -- ---- the successor, from what matching and the conditions say
-module _ (ws cs : List ℤ) (n : ℕ) (rule : Rule) (g : Term) (a : RuleAt ws cs n rule g) where
+module _ (ws cs : List ℤ) (n : ℕ) (rule : Rule) (g : Term) (a : Candidate ws cs n rule g) where
   by-rule : (s : Option Term) → successor rule g ≡ s → successorBy (a .table) n g ≡ s
   by-rule s e = ap (λ (z : Option Rule). z >>= λ q. successor q g) (a .numbered) ∙ e
 
-  pub unmatched : present (tryMatch (single (rule .left)) (single g) unbound) ≡ false → successorBy (a .table) n g ≡ none
-  unmatched e = by-rule none (go (tryMatch (single (rule .left)) (single g) unbound) e)
-    where
-      go : (o : Option Valuation) → present o ≡ false → (o >>= λ ρ. cond (holdAll ρ (rule .conditions)) (value ρ (rule .right)) none) ≡ none
-      go none e = refl
-      go (some ρ) e = absurd (true≢false e)
+  matched-by : boundBy (comparison (rule .left) g) ≡ tryMatch (single (rule .left)) (single g) unbound
+  matched-by = compare-match (single (rule .left)) (single g) (good rule (rule-okay (a .table) (a .is .accepted) n rule (a .numbered)) .left .inRange) (ground-good (a .configuration)) unbound
 
-  pub matched-some : present (tryMatch (single (rule .left)) (single g) unbound) ≡ true → (ρ : Valuation) × (tryMatch (single (rule .left)) (single g) unbound ≡ some ρ)
-  matched-some e = go (tryMatch (single (rule .left)) (single g) unbound) refl e
+  pub unmatched : tryMatch (single (rule .left)) (single g) unbound ≡ none → successorBy (a .table) n g ≡ none
+  unmatched e = by-rule none (ap (λ (o : Option Valuation). o >>= λ ρ. cond (holdAll ρ (rule .conditions)) (value ρ (rule .right)) none) e)
+
+  -- all of the left's nodes agree
+  pub matched-some : passedBy (comparison (rule .left) g) ≡ All → (ρ : Valuation) × (comparison (rule .left) g ≡ agreed ρ) × (tryMatch (single (rule .left)) (single g) unbound ≡ some ρ)
+  matched-some e = go (comparison (rule .left) g) refl e
     where
-      go : (o : Option Valuation) → tryMatch (single (rule .left)) (single g) unbound ≡ o → present o ≡ true → (ρ : Valuation) × (tryMatch (single (rule .left)) (single g) unbound ≡ some ρ)
-      go none p e = absurd (true≢false (sym e))
-      go (some ρ) p e = (ρ, p)
+      go : (c : Comparison) → comparison (rule .left) g ≡ c → passedBy c ≡ All → (ρ : Valuation) × (comparison (rule .left) g ≡ agreed ρ) × (tryMatch (single (rule .left)) (single g) unbound ≡ some ρ)
+      go (agreed ρ) p q = (ρ, p, sym matched-by ∙ ap boundBy p)
+      go (apart k) p q = absurd (let z : _≡_ {A = ℕ} 0 1 = cc in let f : ⊥ = omega arith in f)
 
   module _ (ρ : Valuation) (m : tryMatch (single (rule .left)) (single g) unbound ≡ some ρ) where
     held : (b : Bool) → holdAll ρ (rule .conditions) ≡ b → successor rule g ≡ cond b (value ρ (rule .right)) none
     held b e = ap (λ (o : Option Valuation). o >>= λ σ. cond (holdAll σ (rule .conditions)) (value σ (rule .right)) none) m ∙ ap (λ (c : Bool). cond c (value ρ (rule .right)) none) e
 
-    pub unheld : holdAll ρ (rule .conditions) ≡ false → successorBy (a .table) n g ≡ none
-    unheld e = by-rule none (held false e)
-
-    pub applied : (h : Term) → holdAll ρ (rule .conditions) ≡ true → value ρ (rule .right) ≡ some h → successor rule g ≡ some h
-    applied h e v = held true e ∙ v
-
     pub right-value : (h : Term) × (value ρ (rule .right) ≡ some h)
     right-value =
         let o = rule-okay (a .table) (a .is .accepted) n rule (a .numbered) in
         has-value (single (rule .left)) ρ (matches-binds ρ (single (rule .left)) (single g) (match-sound (single (rule .left)) (single g) unbound ρ m .0)) (rule .right) (good rule o .covered)
+
+  -- it applies exactly if it has a successor
+  pub verdict-applies : (verdictOf rule g ≡ Applies) ↔ ((h : Term) × (successor rule g ≡ some h))
+  verdict-applies = go (comparison (rule .left) g) matched-by
+    where
+      judged : (ρ : Valuation) → tryMatch (single (rule .left)) (single g) unbound ≡ some ρ → (p : Passed) → allOf p ≡ holdAll ρ (rule .conditions) → (verdictHeld p ≡ Applies) ↔ ((h : Term) × (successor rule g ≡ some h))
+      judged ρ m All e = (λ q. let (h, v) = right-value ρ m in (h, held ρ m true (sym e) ∙ v), λ x. refl)
+      judged ρ m (Until k) e = (λ q. absurd (let z : _≡_ {A = ℕ} 0 1 = cc in let f : ⊥ = omega arith in f), λ x. absurd (Option·none-ne-some (x .0) (sym (held ρ m false (sym e)) ∙ x .1)))
+
+      go : (c : Comparison) → boundBy c ≡ tryMatch (single (rule .left)) (single g) unbound → (verdictBy (rule .conditions) c ≡ Applies) ↔ ((h : Term) × (successor rule g ≡ some h))
+      go (agreed ρ) m = judged ρ (sym m) (heldBy ρ (rule .conditions)) (held-all ρ (rule .conditions))
+      go (apart k) m = (λ q. absurd (let z : _≡_ {A = ℕ} 0 1 = cc in let f : ⊥ = omega arith in f), λ x. absurd (Option·none-ne-some (x .0) (ap (λ (o : Option Valuation). o >>= λ ρ. cond (holdAll ρ (rule .conditions)) (value ρ (rule .right)) none) m ∙ x .1)))
 
 -- ---- numbers that name a rule, and those that do not
 past-none : (t : Table) (n : ℕ) → length t ≤ n → getElem? t n ≡ none
@@ -157,5 +164,5 @@ module _ (ws cs : List ℤ) (n : ℕ) (t : Table) (g : Term) (p : IsTable ws t) 
   pub past-successor : length t ≤ n → successorBy t n g ≡ none
   past-successor h = ap (λ (z : Option Rule). z >>= λ r. successor r g) (past-none t n h)
 
-  pub named : n < length t → (rule : Rule) × RuleAt ws cs n rule g
+  pub named : n < length t → (rule : Rule) × Candidate ws cs n rule g
   named h = let r = element-there t n h in (r .0, record { table = t; is = p; numbered = r .1; configuration = q })

@@ -1,3 +1,4 @@
+pub mod CompareLaw
 pub mod MatchingLaw
 pub mod MatchingVariable
 pub mod MatchingAnswer
@@ -7,5 +8,5 @@ pub mod RightLoopLaw
 pub mod RuleLaw
 pub mod ApplyLaw
 pub mod WaysLaw
-pub mod EarliestLaw
+pub mod AmongLaw
 pub mod AcceptLaw

@@ -4,6 +4,7 @@ use mathlib.Core.Bool.{Bool, true, false, _&&_, cond}
 use mathlib.Core.Option.{Option, none, some, Option·some-injective}
 use mathlib.Core.List.{List, [], _∷_, _++_, append-nil}
 use Prim.Native.Nat.{ℕ, _+_, _-_, _<_, _≤_}
+use native.Mathlib.Nat.{add-zero}
 use native.Mathlib.Omega.{arith}
 use lib.Dec.{T}
 use lib.IntN.{ℤ, pos}
@@ -12,21 +13,19 @@ use mir.Syntax.{w64}
 use mir.Val.{SFits, ofZ}
 use Rattle.term.proofs.SignedLaw.{same-bits}
 use Rattle.minuska.specs.Basics.{_>>=_, sameWhole}
-use Rattle.minuska.specs.Term.{Label, Forest, nil, node, Term, single, termCount, role, groundAt}
+use Rattle.minuska.specs.Term.{Label, error, truth, whole, variable, call, symbol, Forest, nil, node, Term, single, termCount, plain, role, groundAt}
 use Rattle.minuska.specs.Word.{tagWord, datumWord, okHead, ok, encode}
 use Rattle.minuska.specs.Satisfaction.{Valuation}
 use Rattle.minuska.specs.Rule.{symbolicAt, isSymbolic}
-use Rattle.minuska.specs.Computed.Read.{readNode}
-use Rattle.minuska.specs.Computed.Match.{tryMatch}
-use Rattle.minuska.specs.Bridge.Walk.{matchWords}
 use Rattle.minuska.specs.Bridge.Place.{Stands, GroundAt, GroundEnds}
 use Rattle.minuska.proofs.Tests.{same-whole, whole-same}
 use Rattle.minuska.proofs.WordLaw.{okay, okay-all, head-okay, read-node, appended, encode-appended}
-use Rattle.minuska.proofs.Bridge.WalkLaw.{flat}
 use Rattle.minuska.proofs.Bridge.PlaceLaw.{stands-word, stands-head, stands-first, stands-second, stands-unique}
 use Rattle.minuska.proofs.Bridge.AppendedLaw.{first-words, appended-count, appended-ok, labels, labels-all, appended-labels}
-use Rattle.step.specs.Matching.{Walk, Walking, TurnFrom, Turned}
-use Rattle.step.specs.declared.matching.Turn.the-variants.{Same, Misfit}
+use Rattle.step.specs.Compare.{Comparison, apart, later, compare}
+use Rattle.step.specs.Matching.{Walk, Walking, TurnFrom, LeftTurned}
+use Rattle.step.specs.declared.matching.LeftTurn.the-variants.{Same, Misfit}
+use Rattle.step.proofs.CompareLaw.{later-later, same-node, compare-plain, compare-on}
 
 abbrev pub word : List ℤ → ℕ → ℤ
 word ws i = getD ws i (pos 0)
@@ -35,15 +34,7 @@ word ws i = getD ws i (pos 0)
 pub word-same : {a b x y : ℤ} → SFits w64 a → SFits w64 b → a ≡ x → b ≡ y → ofZ w64 a ≡ ofZ w64 b → x ≡ y
 word-same {a} {b} f g p q e = sym p ∙ (same-bits a b f g e ∙ q)
 
--- ---- the match of lists of terms, over their words
-alone : (o : Option Valuation) → (o >>= λ τ. matchWords [] [] τ) ≡ o
-alone none = refl
-alone (some τ) = refl
-
-words-match : (f g : Forest) → T (isSymbolic f) → T (ok f) → T (ok g) → termCount f ≡ termCount g → (σ : Valuation) → matchWords (encode f) (encode g) σ ≡ tryMatch f g σ
-words-match f g i x y c σ =
-    ap₂ (λ (u v : List ℤ). matchWords u v σ) (sym (append-nil (encode f))) (sym (append-nil (encode g))) ∙ (flat f g i x y c [] [] σ ∙ alone (tryMatch f g σ))
-
+-- ---- words that are the same, or not
 not-same : (a b : ℤ) → (a ≡ b → ⊥) → sameWhole a b ≡ false
 not-same a b f = pick (sameWhole a b) refl
   where
@@ -58,11 +49,14 @@ is-same a b e = pick (sameWhole a b) (subst (λ (x : ℤ). T (sameWhole a x)) e 
     pick true h = refl
     pick false h = absurd h
 
--- two nodes in range with the same words have as many children
-same-count : (l g : Label) (k m : ℕ) → T (okHead l k) → T (okHead g m) → tagWord l k ≡ tagWord g m → datumWord l ≡ datumWord g → k ≡ m
-same-count l g k m x y p q =
-    ap (λ (z : Label × ℕ). z .1)
-    (Option·some-injective (l, k) (g, m) (sym (read-node l k x) ∙ (ap₂ readNode p q ∙ read-node g m y)))
+-- a left's label is a variable's, with tag 3, or plain
+symbolic-plain : (l : Label) (k : ℕ) → T (symbolicAt (role l)) → (tagWord l k ≡ pos 3 → ⊥) → role l ≡ plain
+symbolic-plain error k s f = refl
+symbolic-plain (truth b) k s f = refl
+symbolic-plain (whole x) k s f = refl
+symbolic-plain (variable v) k s f = absurd (f refl)
+symbolic-plain (call c) k s f = absurd s
+symbolic-plain (symbol x) k s f = refl
 
 -- no words, no terms
 pub childless : (f : Forest) → termCount f ≡ 0 → f ≡ nil
@@ -74,9 +68,9 @@ no-words nil e = refl
 no-words (node l cs ss) e = absurd (let f : ⊥ = omega (arith, e) in f)
 
 -- ---- a node of each before its rest
-module _ {table : List ℤ} {end : ℕ} {config : List ℤ} {i j : ℕ} {starts ends : List ℕ} {o : Option Valuation} where
+module _ {table : List ℤ} {end : ℕ} {config : List ℤ} {i j : ℕ} {starts ends : List ℕ} {n : ℕ} {o : Comparison} where
   -- a variable whose end is not 0 is bound
-  pub has-part : {f g : Forest} {σ : Valuation} → Walk table end config i j starts ends f g σ o → (v : ℕ) → (getD ends v 0 ≡ 0 → ⊥) → (s : Term) × (σ v ≡ some s)
+  pub has-part : {f g : Forest} {σ : Valuation} → Walk table end config n i j starts ends f g σ o → (v : ℕ) → (getD ends v 0 ≡ 0 → ⊥) → (s : Term) × (σ v ≡ some s)
   has-part {f} {g} {σ} w v z = pick (σ v) refl
     where
       pick : (x : Option Term) → σ v ≡ x → (s : Term) × (σ v ≡ some s)
@@ -84,15 +78,15 @@ module _ {table : List ℤ} {end : ℕ} {config : List ℤ} {i j : ℕ} {starts 
       pick (some s) e = (s, e)
 
   -- the walk is at a node of each, unless the left is at its end
-  pub heads : {X : Type 0} → Walking table end config i j starts ends o → i < end → ((l : Label) (ls lss : Forest) (g : Label) (gs gss : Forest) (σ : Valuation) → Walk table end config i j starts ends (node l ls lss) (node g gs gss) σ o → X) → X
+  pub heads : {X : Type 0} → Walking table end config n i j starts ends o → i < end → ((l : Label) (ls lss : Forest) (g : Label) (gs gss : Forest) (σ : Valuation) → Walk table end config n i j starts ends (node l ls lss) (node g gs gss) σ o → X) → X
   heads {X} w h go = pick (w .lefts) (w .grounds) (w .walk)
     where
-      pick : (f g : Forest) → Walk table end config i j starts ends f g (w .valuation) o → X
+      pick : (f g : Forest) → Walk table end config n i j starts ends f g (w .valuation) o → X
       pick nil g k = absurd (let e = k .leftEnds in let f : ⊥ = omega arith in f)
       pick (node l ls lss) nil k = absurd (let f : ⊥ = omega (arith, k .asMany) in f)
       pick (node l ls lss) (node g gs gss) k = go l ls lss g gs gss (w .valuation) k
 
-  module _ (l : Label) (ls lss : Forest) (g : Label) (gs gss : Forest) (σ : Valuation) (w : Walk table end config i j starts ends (node l ls lss) (node g gs gss) σ o) where
+  module _ (l : Label) (ls lss : Forest) (g : Label) (gs gss : Forest) (σ : Valuation) (w : Walk table end config n i j starts ends (node l ls lss) (node g gs gss) σ o) where
     pub left-tag : word table i ≡ tagWord l (termCount ls)
     left-tag = stands-head (w .leftStands) (pos 0)
 
@@ -119,12 +113,11 @@ module _ {table : List ℤ} {end : ℕ} {config : List ℤ} {i j : ℕ} {starts 
         record { term = term; good = okay-all g gs nil (p .allowed) (p .children) tt; ground = labels-all (λ z. groundAt (role z)) g gs nil (d .here) (d .children) tt; stands = stands-first (encode (single term)) (encode gss) words-here }
 
     -- ---- a plain node
-    plain-outcome : (word table i ≡ pos 3 → ⊥) → (b : Bool) → sameWhole (tagWord l (termCount ls)) (tagWord g (termCount gs)) && sameWhole (datumWord l) (datumWord g) ≡ b → cond b (matchWords (encode ls ++ encode lss) (encode gs ++ encode gss) σ) none ≡ o
-    plain-outcome f b e =
-        rw (not-same (tagWord l (termCount ls)) (pos 3) (λ p. f (left-tag ∙ p)), e) at
-        (words-match (node l ls lss) (node g gs gss) (w .leftSymbolic) (w .leftGood) (w .groundGood) (w .asMany) σ ∙ w .outcome)
+    -- the label is plain, as the tag says
+    plain-role : (word table i ≡ pos 3 → ⊥) → role l ≡ plain
+    plain-role f = symbolic-plain l (termCount ls) (labels (λ z. symbolicAt (role z)) l ls lss (w .leftSymbolic) .here) (λ p. f (left-tag ∙ p))
 
-    after-same : (word table i ≡ pos 3 → ⊥) → word table i ≡ word config j → word table (i + 1) ≡ word config (j + 1) → Walking table end config (i + 2) (j + 2) starts ends o
+    after-same : (word table i ≡ pos 3 → ⊥) → word table i ≡ word config j → word table (i + 1) ≡ word config (j + 1) → Walking table end config (n + 1) (i + 2) (j + 2) starts ends o
     after-same f p q =
         let p′ : tagWord l (termCount ls) ≡ tagWord g (termCount gs) = sym left-tag ∙ (p ∙ ground-tag) in
         let q′ : datumWord l ≡ datumWord g = sym left-datum ∙ (q ∙ ground-datum) in
@@ -132,7 +125,7 @@ module _ {table : List ℤ} {end : ℕ} {config : List ℤ} {i j : ℕ} {starts 
         let b = okay g gs gss (w .groundGood) in
         let c = labels (λ z. symbolicAt (role z)) l ls lss (w .leftSymbolic) in
         let d = labels (λ z. groundAt (role z)) g gs gss (w .groundGround) in
-        let n = same-count l g (termCount ls) (termCount gs) (head-okay l ls (a .allowed)) (head-okay g gs (b .allowed)) p′ q′ in
+        let m = same-node l g (termCount ls) (termCount gs) (head-okay l ls (a .allowed)) (head-okay g gs (b .allowed)) p′ q′ .1 in
         let many : termCount (appended ls lss) ≡ termCount (appended gs gss) = omega (arith, w .asMany, appended-count ls lss, appended-count gs gss) in
         let good = appended-ok ls lss (a .children) (a .rest) in
         let sound = appended-ok gs gss (b .children) (b .rest) in
@@ -154,30 +147,32 @@ module _ {table : List ℤ} {end : ℕ} {config : List ℤ} {i j : ℕ} {starts 
             binds = w .binds;
             free = w .free;
             outcome =
-                sym (words-match (appended ls lss) (appended gs gss) symbolic good sound many σ) ∙
-                (ap₂ (λ (u v : List ℤ). matchWords u v σ) (encode-appended ls lss) (encode-appended gs gss) ∙
-                plain-outcome f true (ap₂ _&&_ (is-same (tagWord l (termCount ls)) (tagWord g (termCount gs)) p′) (is-same (datumWord l) (datumWord g) q′)));
+                sym (later-later n 1 (compare (appended ls lss) (appended gs gss) σ)) ∙
+                (ap (later n) (sym (compare-on l ls lss g gs gss σ (plain-role f) (ap₂ _&&_ (is-same (tagWord l (termCount ls)) (tagWord g (termCount gs)) p′) (is-same (datumWord l) (datumWord g) q′)) m)) ∙ w .outcome);
           };
         }
 
-    after-other : (word table i ≡ pos 3 → ⊥) → (word table i ≡ word config j → word table (i + 1) ≡ word config (j + 1) → ⊥) → o ≡ none
+    after-other : (word table i ≡ pos 3 → ⊥) → (word table i ≡ word config j → word table (i + 1) ≡ word config (j + 1) → ⊥) → o ≡ apart n
     after-other f h = pick (sameWhole (tagWord l (termCount ls)) (tagWord g (termCount gs))) (sameWhole (datumWord l) (datumWord g)) refl refl
       where
-        pick : (a b : Bool) → sameWhole (tagWord l (termCount ls)) (tagWord g (termCount gs)) ≡ a → sameWhole (datumWord l) (datumWord g) ≡ b → o ≡ none
+        stopped : sameWhole (tagWord l (termCount ls)) (tagWord g (termCount gs)) && sameWhole (datumWord l) (datumWord g) ≡ false → o ≡ apart n
+        stopped e = sym (w .outcome) ∙ (ap (later n) (compare-plain l ls lss g gs gss σ (plain-role f) false e) ∙ ap apart (add-zero n))
+
+        pick : (a b : Bool) → sameWhole (tagWord l (termCount ls)) (tagWord g (termCount gs)) ≡ a → sameWhole (datumWord l) (datumWord g) ≡ b → o ≡ apart n
         pick true true p q =
             absurd
             (h (left-tag ∙ (same-whole (tagWord l (termCount ls)) (tagWord g (termCount gs)) (subst⁻¹ T p tt) ∙ sym ground-tag))
             (left-datum ∙ (same-whole (datumWord l) (datumWord g) (subst⁻¹ T q tt) ∙ sym ground-datum)))
-        pick true false p q = sym (plain-outcome f false (ap₂ _&&_ p q))
-        pick false b p q = sym (plain-outcome f false (ap (λ (z : Bool). z && sameWhole (datumWord l) (datumWord g)) p))
+        pick true false p q = stopped (ap₂ _&&_ p q)
+        pick false b p q = stopped (ap (λ (z : Bool). z && sameWhole (datumWord l) (datumWord g)) p)
 
 -- ---- what one turn answers at a plain node
 module _ {table : List ℤ} {i end : ℕ} {config : List ℤ} {j : ℕ} {starts ends : List ℕ} (plain : word table i ≡ pos 3 → ⊥) where
-  pub turned-same : word table i ≡ word config j → word table (i + 1) ≡ word config (j + 1) → Turned table i end config j starts ends Same
-  turned-same p q = record { after = λ o h w. heads w h (λ l ls lss g gs gss σ k. after-same l ls lss g gs gss σ k plain p q) }
+  pub turned-same : word table i ≡ word config j → word table (i + 1) ≡ word config (j + 1) → LeftTurned table i end config j starts ends Same
+  turned-same p q = record { after = λ n o h w. heads w h (λ l ls lss g gs gss σ k. after-same l ls lss g gs gss σ k plain p q) }
 
-  pub turned-other : (word table i ≡ word config j → word table (i + 1) ≡ word config (j + 1) → ⊥) → Turned table i end config j starts ends Misfit
-  turned-other f = record { after = λ o h w. heads w h (λ l ls lss g gs gss σ k. after-other l ls lss g gs gss σ k plain f) }
+  pub turned-other : (word table i ≡ word config j → word table (i + 1) ≡ word config (j + 1) → ⊥) → LeftTurned table i end config j starts ends Misfit
+  turned-other f = record { after = λ n o h w. heads w h (λ l ls lss g gs gss σ k. after-other l ls lss g gs gss σ k plain f) }
 
 -- both have a node's two words there
 pub record Room (table : List ℤ) (i : ℕ) (config : List ℤ) (j : ℕ) : Type 0 where

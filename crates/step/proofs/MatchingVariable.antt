@@ -4,6 +4,7 @@ use mathlib.Core.Bool.{Bool, true, false, cond}
 use mathlib.Core.Option.{Option, none, some, Option·some-injective, Option·none-ne-some}
 use mathlib.Core.List.{List, [], _∷_}
 use Prim.Native.Nat.{ℕ, _+_, _-_, _<_, _≤_}
+use native.Mathlib.Nat.{add-zero}
 use native.Mathlib.Omega.{arith}
 use native.Mathlib.Decide.{ℕ-discrete}
 use lib.Dec.{T, eqb, ltb, eqb→eq, ltb→lt}
@@ -11,19 +12,21 @@ use lib.IntN.{ℤ, pos, natAbs}
 use lib.Signed.{nonNeg}
 use lib.ListN.{length, take, drop, getD, length-append}
 use borrow.Author.Tests.{eq-eqb, ne-eqb}
-use Rattle.minuska.specs.Basics.{_>>=_, provided}
+use Rattle.minuska.specs.Basics.{provided}
 use Rattle.minuska.specs.Term.{Label, error, truth, whole, variable, call, symbol, Forest, nil, node, Term, single, termCount, role, groundAt}
 use Rattle.minuska.specs.Word.{tagWord, datumWord, okNode, encode}
 use Rattle.minuska.specs.Satisfaction.{Valuation}
 use Rattle.minuska.specs.Rule.{symbolicAt}
-use Rattle.minuska.specs.Computed.Match.{sameTerm, assignNew, assignAt, tryMatch}
+use Rattle.minuska.specs.Computed.Match.{sameTerm, assignNew, assignAt, assign}
 use Rattle.minuska.specs.Bridge.Place.{part, Stands, GroundAt, GroundEnds, BoundAt, Binds}
 use Rattle.minuska.proofs.Tests.{and-left, and-right, provided-true, same-term, term-same}
 use Rattle.minuska.proofs.WordLaw.{okay}
 use Rattle.minuska.proofs.Bridge.PlaceLaw.{stands-second, stands-unique}
 use Rattle.minuska.proofs.Bridge.AppendedLaw.{first-words, labels}
-use Rattle.step.specs.Matching.{Walk, Walking, TurnFrom, Put, Turned}
-use Rattle.step.specs.declared.matching.Turn.the-variants.{Bind, Again, Misfit}
+use Rattle.step.specs.Compare.{Comparison, apart, later, after, compareBound, compare}
+use Rattle.step.specs.Matching.{Walk, Walking, TurnFrom, Put, LeftTurned}
+use Rattle.step.specs.declared.matching.LeftTurn.the-variants.{Bind, Again, Misfit}
+use Rattle.step.proofs.CompareLaw.{later-later}
 use Rattle.step.proofs.MatchingLaw.{word, childless, has-part, heads, left-tag, left-datum, words-here, term-at}
 
 -- the tag 3 is a variable's
@@ -35,23 +38,23 @@ tag-three (variable v) k e = (v, refl)
 tag-three (call c) k e = absurd (let z : _≡_ {A = ℕ} 4 3 = ap natAbs e in let f : ⊥ = omega arith in f)
 tag-three (symbol s) k e = absurd (let z : 8 + k ≡ 3 = ap natAbs e in let f : ⊥ = omega arith in f)
 
-module _ {table : List ℤ} {end : ℕ} {config : List ℤ} {i j : ℕ} {starts ends : List ℕ} {o : Option Valuation} where
+module _ {table : List ℤ} {end : ℕ} {config : List ℤ} {i j : ℕ} {starts ends : List ℕ} {n : ℕ} {o : Comparison} where
   -- the walk is at a variable, if the tag says so
-  at-variable : {X : Type 0} {v : ℕ} → Walking table end config i j starts ends o → i < end → word table i ≡ pos 3 → v ≡ natAbs (word table (i + 1)) → ((lss : Forest) (g : Label) (gs gss : Forest) (σ : Valuation) → v < 16 → word table (i + 1) ≡ pos v → Walk table end config i j starts ends (node (variable v) nil lss) (node g gs gss) σ o → X) → X
+  at-variable : {X : Type 0} {v : ℕ} → Walking table end config n i j starts ends o → i < end → word table i ≡ pos 3 → v ≡ natAbs (word table (i + 1)) → ((lss : Forest) (g : Label) (gs gss : Forest) (σ : Valuation) → v < 16 → word table (i + 1) ≡ pos v → Walk table end config n i j starts ends (node (variable v) nil lss) (node g gs gss) σ o → X) → X
   at-variable {X} {v} w h three e go = heads w h pick
     where
-      pick : (l : Label) (ls lss : Forest) (g : Label) (gs gss : Forest) (σ : Valuation) → Walk table end config i j starts ends (node l ls lss) (node g gs gss) σ o → X
+      pick : (l : Label) (ls lss : Forest) (g : Label) (gs gss : Forest) (σ : Valuation) → Walk table end config n i j starts ends (node l ls lss) (node g gs gss) σ o → X
       pick l ls lss g gs gss σ k =
           let t = tag-three l (termCount ls) (sym (left-tag l ls lss g gs gss σ k) ∙ three) in
           let d : word table (i + 1) ≡ pos (t .0) = left-datum l ls lss g gs gss σ k ∙ ap datumWord (t .1) in
-          let n : v ≡ t .0 = e ∙ ap natAbs d in
-          let p : l ≡ variable v = t .1 ∙ ap variable (sym n) in
+          let same : v ≡ t .0 = e ∙ ap natAbs d in
+          let p : l ≡ variable v = t .1 ∙ ap variable (sym same) in
           let x : T (okNode (variable v) ls) = subst (λ (m : Label). T (okNode m ls)) p (okay l ls lss (k .leftGood) .allowed) in
           let z = childless ls (eqb→eq (termCount ls) 0 (and-right (ltb v 16) (eqb (termCount ls) 0) x)) in
-          go lss g gs gss σ (ltb→lt v 16 (and-left (ltb v 16) (eqb (termCount ls) 0) x)) (d ∙ ap pos (sym n))
-          (subst₂ (λ (m : Label) (c : Forest). Walk table end config i j starts ends (node m c lss) (node g gs gss) σ o) p z k)
+          go lss g gs gss σ (ltb→lt v 16 (and-left (ltb v 16) (eqb (termCount ls) 0) x)) (d ∙ ap pos (sym same))
+          (subst₂ (λ (m : Label) (c : Forest). Walk table end config n i j starts ends (node m c lss) (node g gs gss) σ o) p z k)
 
-  module _ (v : ℕ) (lss : Forest) (g : Label) (gs gss : Forest) (σ : Valuation) (w : Walk table end config i j starts ends (node (variable v) nil lss) (node g gs gss) σ o) where
+  module _ (v : ℕ) (lss : Forest) (g : Label) (gs gss : Forest) (σ : Valuation) (w : Walk table end config n i j starts ends (node (variable v) nil lss) (node g gs gss) σ o) where
     abbrev here : Term
     here = record { label = g; children = gs }
 
@@ -59,7 +62,7 @@ module _ {table : List ℤ} {end : ℕ} {config : List ℤ} {i j : ℕ} {starts 
     found = term-at (variable v) nil lss g gs gss σ w
 
     -- the walk goes on behind the variable and behind the here
-    behind : (e : ℕ) → e ≡ j + length (encode (single here)) → (starts′ ends′ : List ℕ) (τ : Valuation) → Binds config starts′ ends′ τ → ((u : ℕ) → τ u ≡ none → getD ends′ u 0 ≡ 0) → tryMatch lss gss τ ≡ o → Walking table end config (i + 2) e starts′ ends′ o
+    behind : (e : ℕ) → e ≡ j + length (encode (single here)) → (starts′ ends′ : List ℕ) (τ : Valuation) → Binds config starts′ ends′ τ → ((u : ℕ) → τ u ≡ none → getD ends′ u 0 ≡ 0) → later (n + 1) (compare lss gss τ) ≡ o → Walking table end config (n + 1) (i + 2) e starts′ ends′ o
     behind e at starts′ ends′ τ binds free outcome =
         let a = okay (variable v) nil lss (w .leftGood) in
         let b = okay g gs gss (w .groundGood) in
@@ -85,6 +88,14 @@ module _ {table : List ℤ} {end : ℕ} {config : List ℤ} {i j : ℕ} {starts 
           };
         }
 
+    -- the outcome, by whether the variable may hold the term
+    assigned : (τ : Valuation) → assign σ v here ≡ some τ → later (n + 1) (compare lss gss τ) ≡ o
+    assigned τ e =
+        sym (later-later n 1 (compare lss gss τ)) ∙ (sym (ap (λ (x : Option Valuation). later n (after 1 (compareBound x) (λ υ. compare lss gss υ))) e) ∙ w .outcome)
+
+    not-assigned : assign σ v here ≡ none → o ≡ apart n
+    not-assigned e = sym (w .outcome) ∙ (ap (λ (x : Option Valuation). later n (after 1 (compareBound x) (λ υ. compare lss gss υ))) e ∙ ap apart (add-zero n))
+
     -- ---- a variable with no part yet
     no-part : getD ends v 0 ≡ 0 → σ v ≡ none
     no-part z = pick (σ v) refl
@@ -93,10 +104,10 @@ module _ {table : List ℤ} {end : ℕ} {config : List ℤ} {i j : ℕ} {starts 
         pick none e = refl
         pick (some s) e = absurd (let b = w .binds .places v s e .ends in let f : ⊥ = omega arith in f)
 
-    after-bind : v < 16 → (e : ℕ) → getD ends v 0 ≡ 0 → e ≡ j + length (encode (single here)) → (starts′ ends′ : List ℕ) → Put starts starts′ v j → Put ends ends′ v e → Walking table end config (i + 2) e starts′ ends′ o
+    after-bind : v < 16 → (e : ℕ) → getD ends v 0 ≡ 0 → e ≡ j + length (encode (single here)) → (starts′ ends′ : List ℕ) → Put starts starts′ v j → Put ends ends′ v e → Walking table end config (n + 1) (i + 2) e starts′ ends′ o
     after-bind low e z at starts′ ends′ ps pe =
         behind e at starts′ ends′ (assignNew σ v here) (record { places = λ u. place u (ℕ-discrete u v) }) (λ u. open-end u (ℕ-discrete u v))
-        (sym (ap (λ (x : Option Term). assignAt x σ v here >>= λ τ. tryMatch lss gss τ) (no-part z)) ∙ w .outcome)
+        (assigned (assignNew σ v here) (ap (λ (x : Option Term). assignAt x σ v here) (no-part z)))
       where
         at-it : (u : ℕ) → u ≡ v → assignNew σ v here u ≡ some here
         at-it u p = ap (λ (b : Bool). cond b (some here) (σ u)) (eq-eqb u v p)
@@ -126,54 +137,54 @@ module _ {table : List ℤ} {end : ℕ} {config : List ℤ} {i j : ℕ} {starts 
           let n : getD ends v 0 - getD starts v 0 ≡ length (encode (single s)) = omega (arith, bound .ends) in
           ap (λ (k : ℕ). take k (drop (getD starts v 0) config)) n ∙ bound .stands .words
 
-      again-outcome : assignAt (some s) σ v here >>= (λ τ. tryMatch lss gss τ) ≡ o
-      again-outcome = rw p at (w .outcome)
+      again-assigns : assign σ v here ≡ provided (sameTerm s here) σ
+      again-assigns = ap (λ (x : Option Term). assignAt x σ v here) p
 
-      after-again : (e : ℕ) → e ≡ j + (getD ends v 0 - getD starts v 0) → e ≤ length config → part config (getD starts v 0) (getD ends v 0) ≡ part config j e → Walking table end config (i + 2) e starts ends o
+      after-again : (e : ℕ) → e ≡ j + (getD ends v 0 - getD starts v 0) → e ≤ length config → part config (getD starts v 0) (getD ends v 0) ≡ part config j e → Walking table end config (n + 1) (i + 2) e starts ends o
       after-again e at h same =
           let n : length (encode (single s)) ≡ e - j = omega (arith, bound .ends) in
           let x : Stands config j (encode (single s)) = record { words = ap (λ (k : ℕ). take k (drop j config)) n ∙ (sym same ∙ part-words); within = omega (arith, bound .ends) } in
           let q : s ≡ here = stands-unique s here (bound .good) (found .good) x (found .stands) in
           behind e (omega (arith, bound .ends, ap (λ (t : Term). length (encode (single t))) q)) starts ends σ (w .binds) (w .free)
-          (sym (ap (λ (y : Option Valuation). y >>= λ τ. tryMatch lss gss τ) (provided-true (sameTerm s here) σ (subst (λ (t : Term). T (sameTerm s t)) q (term-same s)))) ∙ again-outcome)
+          (assigned σ (again-assigns ∙ provided-true (sameTerm s here) σ (subst (λ (t : Term). T (sameTerm s t)) q (term-same s))))
 
-      after-differs : (s ≡ here → ⊥) → o ≡ none
+      after-differs : (s ≡ here → ⊥) → o ≡ apart n
       after-differs f = pick (sameTerm s here) refl
         where
-          pick : (b : Bool) → sameTerm s here ≡ b → o ≡ none
+          pick : (b : Bool) → sameTerm s here ≡ b → o ≡ apart n
           pick true e = absurd (f (same-term s here (subst⁻¹ T e tt)))
-          pick false e = sym again-outcome ∙ ap (λ (b : Bool). provided b σ >>= λ τ. tryMatch lss gss τ) e
+          pick false e = not-assigned (again-assigns ∙ ap (λ (b : Bool). provided b σ) e)
 
       -- a part with other words is another term's; a term ends within the configuration
-      after-other-words : (e : ℕ) → e ≡ j + (getD ends v 0 - getD starts v 0) → (part config (getD starts v 0) (getD ends v 0) ≡ part config j e → ⊥) → o ≡ none
+      after-other-words : (e : ℕ) → e ≡ j + (getD ends v 0 - getD starts v 0) → (part config (getD starts v 0) (getD ends v 0) ≡ part config j e → ⊥) → o ≡ apart n
       after-other-words e at f =
           after-differs λ q.
           let n : e - j ≡ length (encode (single here)) = omega (arith, bound .ends, ap (λ (t : Term). length (encode (single t))) q) in
           f (part-words ∙ (ap (λ (t : Term). encode (single t)) q ∙ (sym (found .stands .words) ∙ ap (λ (k : ℕ). take k (drop j config)) (sym n))))
 
-      after-long : (e : ℕ) → e ≡ j + (getD ends v 0 - getD starts v 0) → length config < e → o ≡ none
+      after-long : (e : ℕ) → e ≡ j + (getD ends v 0 - getD starts v 0) → length config < e → o ≡ apart n
       after-long e at h =
           after-differs λ q.
           omega (arith, bound .ends, ap (λ (t : Term). length (encode (single t))) q, found .stands .within)
 
 -- ---- what one turn answers at a variable
 module _ {table : List ℤ} {i end : ℕ} {config : List ℤ} {j : ℕ} {starts ends : List ℕ} {v : ℕ} (three : word table i ≡ pos 3) (number : v ≡ natAbs (word table (i + 1))) where
-  pub turned-bind : getD ends v 0 ≡ 0 → {e : ℕ} → GroundEnds config j e → Turned table i end config j starts ends (Bind v e)
+  pub turned-bind : getD ends v 0 ≡ 0 → {e : ℕ} → GroundEnds config j e → LeftTurned table i end config j starts ends (Bind v e)
   turned-bind z {e} t =
-      record { after = λ o h w. at-variable w h three number λ lss g gs gss σ low d k. let x = found v lss g gs gss σ k in let a = t .ends (x .term) (x .good) (x .ground) (x .stands) in (low, omega (arith, a), after-bind v lss g gs gss σ k low e z a) }
+      record { after = λ n o h w. at-variable w h three number λ lss g gs gss σ low d k. let x = found v lss g gs gss σ k in let a = t .ends (x .term) (x .good) (x .ground) (x .stands) in (low, omega (arith, a), after-bind v lss g gs gss σ k low e z a) }
 
   module _ (z : getD ends v 0 ≡ 0 → ⊥) {e : ℕ} (at : e ≡ j + (getD ends v 0 - getD starts v 0)) where
-    pub turned-again : e ≤ length config → part config (getD starts v 0) (getD ends v 0) ≡ part config j e → Turned table i end config j starts ends (Again e)
+    pub turned-again : e ≤ length config → part config (getD starts v 0) (getD ends v 0) ≡ part config j e → LeftTurned table i end config j starts ends (Again e)
     turned-again h same =
-        record { after = λ o m w. at-variable w m three number λ lss g gs gss σ low d k. let x = has-part k v z in after-again v lss g gs gss σ k (x .0) (x .1) e at h same }
+        record { after = λ n o m w. at-variable w m three number λ lss g gs gss σ low d k. let x = has-part k v z in after-again v lss g gs gss σ k (x .0) (x .1) e at h same }
 
-    pub turned-differs : (part config (getD starts v 0) (getD ends v 0) ≡ part config j e → ⊥) → Turned table i end config j starts ends Misfit
+    pub turned-differs : (part config (getD starts v 0) (getD ends v 0) ≡ part config j e → ⊥) → LeftTurned table i end config j starts ends Misfit
     turned-differs f =
-        record { after = λ o m w. at-variable w m three number λ lss g gs gss σ low d k. let x = has-part k v z in after-other-words v lss g gs gss σ k (x .0) (x .1) e at f }
+        record { after = λ n o m w. at-variable w m three number λ lss g gs gss σ low d k. let x = has-part k v z in after-other-words v lss g gs gss σ k (x .0) (x .1) e at f }
 
-    pub turned-long : length config < e → Turned table i end config j starts ends Misfit
+    pub turned-long : length config < e → LeftTurned table i end config j starts ends Misfit
     turned-long h =
-        record { after = λ o m w. at-variable w m three number λ lss g gs gss σ low d k. let x = has-part k v z in after-long v lss g gs gss σ k (x .0) (x .1) e at h }
+        record { after = λ n o m w. at-variable w m three number λ lss g gs gss σ low d k. let x = has-part k v z in after-long v lss g gs gss σ k (x .0) (x .1) e at h }
 
   -- the variable's number is below 16, and its part, if it has one, lies in the configuration
   module _ (t : TurnFrom table i end config j starts ends) where

@@ -1,6 +1,6 @@
 -- One item of a right, by the node's tag: a variable's part, a call's value, or a plain node's two words; its size; and the rest behind it.
 use mathlib.Core.Path.{_≡_, refl, sym, _∙_, ap, subst, subst⁻¹, subst₂}
-use mathlib.Core.Bool.{Bool, true, false, _&&_, cond}
+use mathlib.Core.Bool.{Bool, true, false, _&&_, cond, false≢true}
 use mathlib.Core.Option.{Option, some}
 use mathlib.Core.List.{List, [], _∷_, _++_}
 use Prim.Native.Nat.{ℕ, _+_, _-_, _≤_, _<_}
@@ -30,7 +30,7 @@ use Rattle.value.specs.declared.Value.the-variants as W
 use Rattle.value.specs.Value.{valueWords, Within, sizeOf, Ordered}
 use Rattle.value.specs.Evaluate.{HasValue, ExpressionIn, EvaluateContract}
 use Rattle.value.proofs.WordsLaw.{size-is, within-ordered}
-use Rattle.step.specs.Right.{Rest, SomeRest, Leads, ItemOf, ItemIs, SizedOf, SomeItem, PieceIs, SizedIs}
+use Rattle.step.specs.Right.{Rest, SomeRest, Leads, ItemOf, ItemIs, SizedOf, SizedIs, SomePiece, PieceIs, OneNodeIs}
 use Rattle.step.proofs.MatchingLaw.{word, childless}
 use Rattle.step.proofs.MatchingVariable.{tag-three}
 
@@ -201,13 +201,17 @@ module _ {ws cs : List ℤ} {starts ends : List ℕ} {at end : ℕ} {ρ : Valuat
       let n : at + 2 - at ≡ 2 = omega arith in
       record { within = (omega arith, h .within); leads = subst (λ (vs : List ℤ). Leads ws cs starts ends at end ρ us vs (at + 2)) (sym (ap (λ (m : ℕ). take m (drop at ws)) n ∙ h .words)) (node-leads f g) }
 
+-- a node's two words
+pub node-within : {ws cs : List ℤ} {starts ends : List ℕ} {at end : ℕ} → at < end → SomeRest ws cs starts ends at end → at + 2 ≤ length ws
+node-within below s = first (s .terms) below (s .is) λ l ls ss r t. omega (arith, r .stands .within)
+
 -- ---- `piece`, by the tag that it reads
 module _ (ws : List ℤ) (starts ends : List ℕ) (at : ℕ) where
-  pub node-within : SomeItem ws starts ends at → at + 2 ≤ length ws
-  node-within s = first (s .rest .terms) (s .before) (s .rest .is) λ l ls ss r t. omega (arith, r .stands .within)
+  pub piece-within : SomePiece ws starts ends at → at + 2 ≤ length ws
+  piece-within s = node-within (s .before) (s .rest)
 
   module _ (three : word ws at ≡ pos 3) (v : ℕ) (number : v ≡ natAbs (word ws (at + 1))) where
-    pub variable-fits : SomeItem ws starts ends at → T (nonNeg (word ws (at + 1))) × (v < 16)
+    pub variable-fits : SomePiece ws starts ends at → T (nonNeg (word ws (at + 1))) × (v < 16)
     variable-fits s = first (s .rest .terms) (s .before) (s .rest .is) λ l ls ss r t. let x = variable-here r (sym t ∙ three) v number in (x .datum, x .low)
 
     pub variable-is : PieceIs ws starts ends at (record { value = W.Configuration (getD starts v 0) (getD ends v 0); next = at + 2 })
@@ -224,17 +228,24 @@ module _ (ws cs : List ℤ) (starts ends : List ℕ) (at end : ℕ) (below : at 
   pub evaluated-is : (s : Evaluated) → EvaluateContract ws cs starts ends at s → ItemIs ws cs starts ends at end s
   evaluated-is s c = record { is = λ ρ f us r. first f below r (λ l ls ss k t. evaluated-item k (sym t ∙ four) s c) }
 
--- ---- `item_size`: a call's value is one node, and any other item is a piece
-module _ (ws : List ℤ) (starts ends : List ℕ) (at : ℕ) where
-  pub call-stands : SomeItem ws starts ends at → TermAt ws at
-  call-stands s = first (s .rest .terms) (s .before) (s .rest .is) λ l ls ss r t. term-here r
+-- ---- `item_size`: a call that gives one node, or else the item's own size
+module _ (ws : List ℤ) (at : ℕ) where
+  pub one-node-call : word ws at ≡ pos 4 → OneNodeIs ws at true
+  one-node-call four = record { call = λ e. four; size = λ e cs starts ends end ρ f us below r next x. first f below r (λ l ls ss k t. call-size k (sym t ∙ four) next x) }
 
-  pub call-sized : word ws at ≡ pos 4 → (e : ℕ) → TermEnds ws at e → SizedIs ws starts ends at (record { words = 2; next = e })
-  call-sized four e x = record { is = λ cs end ρ f us below r. first f below r (λ l ls ss k t. call-size k (sym t ∙ four) e x) }
+  pub no-one-node : OneNodeIs ws at false
+  no-one-node = record { call = λ e. absurd (false≢true e); size = λ e. absurd (false≢true e) }
 
-  module _ (s : Evaluated) (x : PieceIs ws starts ends at s) where
-    pub piece-ordered : SomeItem ws starts ends at → Ordered (s .value)
-    piece-ordered i = let g = i .rest in within-ordered ws (i .configuration) (s .value) (x .is (i .configuration) (i .end) (g .valuation) (g .terms) (g .words) (i .before) (g .is) .within)
+module _ (ws cs : List ℤ) (starts ends : List ℕ) (at end : ℕ) (below : at < end) where
+  pub term-stands : SomeRest ws cs starts ends at end → TermAt ws at
+  term-stands s = first (s .terms) below (s .is) λ l ls ss r t. term-here r
 
-    pub piece-sized : (n : ℕ) → n ≡ sizeOf (s .value) → SizedIs ws starts ends at (record { words = n; next = s .next })
-    piece-sized n e = record { is = λ cs end ρ f us below r. let g = x .is cs end ρ f us below r in record { first = valueWords ws cs (s .value); many = e ∙ sym (size-is ws cs (s .value) (g .within)); leads = g .leads } }
+  pub call-sized : (b : Bool) → OneNodeIs ws at b → b ≡ true → (e : ℕ) → TermEnds ws at e → SizedIs ws cs starts ends at end (record { words = 2; next = e })
+  call-sized b o t e x = record { is = λ ρ f us r. o .size t cs starts ends end ρ f us below r e x }
+
+  module _ (s : Evaluated) (x : ItemIs ws cs starts ends at end s) where
+    pub item-ordered : SomeRest ws cs starts ends at end → Ordered (s .value)
+    item-ordered i = within-ordered ws cs (s .value) (x .is (i .valuation) (i .terms) (i .words) (i .is) .within)
+
+    pub item-sized : (n : ℕ) → n ≡ sizeOf (s .value) → SizedIs ws cs starts ends at end (record { words = n; next = s .next })
+    item-sized n e = record { is = λ ρ f us r. let g = x .is ρ f us r in record { first = valueWords ws cs (s .value); many = e ∙ sym (size-is ws cs (s .value) (g .within)); leads = g .leads } }

@@ -19,7 +19,7 @@ use Rattle.value.proofs.WordsLaw.{size-is}
 use Rattle.step.specs.declared.right.Sized.{Sized}
 use Rattle.step.specs.declared.right.Fit.the-variants.{Words, TooLarge}
 use Rattle.step.specs.Apply.{fitOf}
-use Rattle.step.specs.Right.{Rest, SomeRest, Leads, ItemOf, ItemIs, SizedOf, SomeItem, SizedIs, MeasureRightIs, FittingRest, WriteRightIs}
+use Rattle.step.specs.Right.{Rest, SomeRest, Leads, ItemOf, ItemIs, SizedOf, SizedIs, MeasureRightIs, FittingRest, WriteRightIs}
 
 module _ (ws cs : List ℤ) (starts ends : List ℕ) (at end : ℕ) where
   -- how far the items have come: the words so far, and the rest from place i on
@@ -50,8 +50,8 @@ module _ (ws cs : List ℤ) (starts ends : List ℕ) (at end : ℕ) where
     come-item : (r : Evaluated) → ItemIs ws cs starts ends i end r → ItemOf ws cs starts ends i end ρ (c .words) r
     come-item r x = x .is ρ (c .later) (c .words) (c .rest)
 
-    come-sized : (r : Sized) → SizedIs ws starts ends i r → i < end → SizedOf ws cs starts ends i end ρ (c .words) r
-    come-sized r x below = x .is cs end ρ (c .later) (c .words) below (c .rest)
+    come-sized : (r : Sized) → SizedIs ws cs starts ends i end r → SizedOf ws cs starts ends i end ρ (c .words) r
+    come-sized r x = x .is ρ (c .later) (c .words) (c .rest)
 
   come-first : (ρ : Valuation) (f : Forest) (us : List ℤ) → Rest ws cs starts ends at end ρ f us → Come us ρ at []
   come-first ρ f us r = record { later = f; words = us; rest = r; joined = refl }
@@ -64,28 +64,28 @@ module _ (ws cs : List ℤ) (starts ends : List ℕ) (at end : ℕ) where
   measuring-first room = record { come = λ ρ f us r. ([], come-first ρ f us r, add-zero room) }
 
   module _ (room i left : ℕ) (m : Measuring room i left) where
-    pub measuring-rest : SomeRest ws cs starts ends at end → i < end → SomeItem ws starts ends i
-    measuring-rest s below =
+    pub measuring-rest : SomeRest ws cs starts ends at end → SomeRest ws cs starts ends i end
+    measuring-rest s =
         let (so-far, c, e) = m .come (s .valuation) (s .terms) (s .words) (s .is) in
-        record { configuration = cs; end = end; before = below; rest = record { valuation = s .valuation; terms = c .later; words = c .words; is = c .rest } }
+        record { valuation = s .valuation; terms = c .later; words = c .words; is = c .rest }
 
     pub measured : end ≤ i → MeasureRightIs ws cs starts ends at end room (Words (room - left))
     unfolding fitOf
     measured h =
         record { is = λ ρ f us r. let (so-far, c, e) = m .come ρ f us r in let q = ap length (come-end us ρ i so-far c h) in let n : room - left ≡ length us = omega arith in rw (n, le-leb (length us) room (omega arith)) refl }
 
-    module _ (below : i < end) (r : Sized) (x : SizedIs ws starts ends i r) where
+    module _ (r : Sized) (x : SizedIs ws cs starts ends i end r) where
       pub measuring-on : r .words ≤ left → Measuring room (r .next) (left - r .words)
       measuring-on h =
-          record { come = λ ρ f us z. let (so-far, c, e) = m .come ρ f us z in let t = come-sized us ρ i so-far c r x below in (so-far ++ t .first, come-on us ρ i so-far c (t .first) (r .next) (t .leads), omega (arith, length-append so-far (t .first), t .many)) }
+          record { come = λ ρ f us z. let (so-far, c, e) = m .come ρ f us z in let t = come-sized us ρ i so-far c r x in (so-far ++ t .first, come-on us ρ i so-far c (t .first) (r .next) (t .leads), omega (arith, length-append so-far (t .first), t .many)) }
 
       pub measured-over : left < r .words → MeasureRightIs ws cs starts ends at end room TooLarge
       unfolding fitOf
       measured-over h =
-          record { is = λ ρ f us z. let (so-far, c, e) = m .come ρ f us z in let t = come-sized us ρ i so-far c r x below in let k = come-size us ρ i so-far c (t .first) (r .next) (t .leads) in rw (lt-leb (length us) room (omega (arith, t .many))) refl }
+          record { is = λ ρ f us z. let (so-far, c, e) = m .come ρ f us z in let t = come-sized us ρ i so-far c r x in let k = come-size us ρ i so-far c (t .first) (r .next) (t .leads) in rw (lt-leb (length us) room (omega (arith, t .many))) refl }
 
       pub measuring-forward : SomeRest ws cs starts ends at end → i < r .next
-      measuring-forward s = let (so-far, c, e) = m .come (s .valuation) (s .terms) (s .words) (s .is) in come-sized (s .words) (s .valuation) i so-far c r x below .leads .forward
+      measuring-forward s = let (so-far, c, e) = m .come (s .valuation) (s .terms) (s .words) (s .is) in come-sized (s .words) (s .valuation) i so-far c r x .leads .forward
 
   -- ---- `write_right`: the words so far stand at the start of the slice, the place behind them is o
   pub record Writing (out₀ : List ℤ) (i o : ℕ) (out : List ℤ) : Type 0 where

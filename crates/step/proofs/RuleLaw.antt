@@ -1,41 +1,32 @@
 -- From where a rule's parts stand to what stands there: the left, the conditions and the right of that rule.
-use mathlib.Core.Path.{_≡_, refl, sym, _∙_, ap}
-use mathlib.Core.Bool.{Bool, true, false, false≢true}
-use mathlib.Core.Logic.{inl, inr}
+use mathlib.Core.Path.{_≡_, _∙_, ap}
 use mathlib.Core.Option.{Option, some}
 use mathlib.Core.List.{List, [], _∷_}
-use Prim.Native.Nat.{ℕ, _+_, _≤_}
-use native.Mathlib.Omega.{arith}
-use lib.IntN.{ℤ, pos}
+use Prim.Native.Nat.{ℕ}
+use lib.IntN.{ℤ}
 use lib.Dec.{T}
-use lib.ListN.{length, getElem?}
+use lib.ListN.{getElem?}
 use Rattle.minuska.specs.Basics.{_>>=_, every}
 use Rattle.minuska.specs.Term.{Term, single}
-use Rattle.minuska.specs.Word.{datumWord, encode}
+use Rattle.minuska.specs.Word.{encode}
 use Rattle.minuska.specs.Satisfaction.{Valuation, SideCondition, Matches}
 use Rattle.minuska.specs.Rule.{Rule, Table, okRule, okCondition, IsTable}
 use Rattle.minuska.specs.Computed.Match.{unbound}
 use Rattle.minuska.specs.Computed.Value.{value}
 use Rattle.minuska.specs.Bridge.Walk.{emit}
-use Rattle.minuska.specs.Bridge.Place.{Names, Accepted, rootTag, RootMeets, leftWords, rightWords, conditionsWords, PartIs}
+use Rattle.minuska.specs.Bridge.Place.{Names, leftWords, rightWords, conditionsWords, PartIs}
 use Rattle.minuska.proofs.Tests.{and-left, and-right}
 use Rattle.minuska.proofs.Good.{good, good-condition}
 use Rattle.minuska.proofs.StepLaw.{rule-okay}
 use Rattle.minuska.proofs.MatchLaw.{match-sound, matches-binds}
 use Rattle.minuska.proofs.ConditionLaw.{has-value}
-use Rattle.minuska.proofs.Bridge.PlaceLaw.{stands-head, stands-word}
 use Rattle.minuska.proofs.Bridge.WriteLaw.{emit-values}
-use Rattle.step.specs.Apply.{RuleAt, Matched, SomeMatched, MatchIs, RootIs, HoldIs, MeasureIs, WordsFit, WriteIs}
+use Rattle.step.specs.Apply.{Candidate, Matched, SomeMatched, MatchIs, HoldIs, MeasureIs, WordsFit, WriteIs}
 use Rattle.step.specs.Matching.{IsLeft, LeftIn, MatchContract}
 use Rattle.step.specs.Conditions.{Sides, Conditions, SomeConditions, HoldAllIs}
 use Rattle.step.specs.Right.{Rest, SomeRest, MeasureRightIs, FittingRest, WriteRightIs}
+use Rattle.step.specs.declared.passed.Passed.{Passed}
 use Rattle.step.specs.declared.right.Fit.{Fit}
-use Rattle.step.proofs.MatchingLaw.{word}
-use Rattle.step.proofs.MatchingAnswer.{root-other}
-
--- the configuration has a root
-pub root-there : {cs : List ℤ} → Accepted cs → 2 ≤ length cs
-root-there a = omega (arith, ap length (a .is .words))
 
 module _ (ws : List ℤ) (n : ℕ) where
   pub matched-names : (cs : List ℤ) (starts ends : List ℕ) → SomeMatched ws cs n starts ends → Names ws n
@@ -51,51 +42,12 @@ module _ (ws : List ℤ) (n : ℕ) where
     pub left-in : Names ws n → LeftIn ws from to
     left-in a = record { left = a .rule .left; is = is-left (a .table) (a .rule) (a .is) (a .numbered) }
 
-    pub match-is : (cs : List ℤ) (starts starts′ ends′ : List ℕ) (r : Bool) → MatchContract ws from to cs starts starts′ ends′ r → MatchIs ws cs n starts′ ends′ r
+    pub match-is : (cs : List ℤ) (starts starts′ ends′ : List ℕ) (r : Passed) → MatchContract ws from to cs starts starts′ ends′ r → MatchIs ws cs n starts′ ends′ r
     match-is cs starts starts′ ends′ r m =
         record {
           answer = λ rule g a. m .each (rule .left) g (is-left (a .table) rule (a .is) (a .numbered)) (a .configuration) .answer;
           binds = λ rule g ρ a e. m .each (rule .left) g (is-left (a .table) rule (a .is) (a .numbered)) (a .configuration) .binds ρ e;
         }
-
-    -- ---- the left's root, and the configuration's
-    pub root-within : Names ws n → from + 2 ≤ length ws
-    root-within a = let l = left-in a in omega (arith, l .is .stands .within)
-
-    module _ (cs : List ℤ) where
-      module _ (rule : Rule) (g : Term) (a : RuleAt ws cs n rule g) where
-        abbrev left : IsLeft ws from to (rule .left)
-        left = is-left (a .table) rule (a .is) (a .numbered)
-
-        left-tag : word ws from ≡ rootTag (rule .left)
-        left-tag = stands-head (left .stands) (pos 0)
-
-        left-datum : word ws (from + 1) ≡ datumWord (rule .left .label)
-        left-datum = stands-word (left .stands) 1 (pos 0) (omega arith)
-
-        ground-tag : word cs 0 ≡ rootTag g
-        ground-tag = ap (λ (c : List ℤ). word c 0) (sym (a .configuration .words))
-
-        ground-datum : word cs 1 ≡ datumWord (g .label)
-        ground-datum = ap (λ (c : List ℤ). word c 1) (sym (a .configuration .words))
-
-      pub root-differs : (word ws from ≡ pos 3 → ⊥) → (word ws from ≡ word cs 0 → word ws (from + 1) ≡ word cs 1 → ⊥) → RootIs ws cs n true
-      root-differs plain f =
-          record { is = λ rule g a. (λ e. apart rule g a, λ h. refl); differs = λ e rule g a. root-other (left rule g a) (a .configuration) plain f }
-        where
-          apart : (rule : Rule) (g : Term) → RuleAt ws cs n rule g → RootMeets (rule .left) g → ⊥
-          apart rule g a (inl e) = plain (left-tag rule g a ∙ e)
-          apart rule g a (inr h) = f (left-tag rule g a ∙ (h .0 ∙ sym (ground-tag rule g a))) (left-datum rule g a ∙ (h .1 ∙ sym (ground-datum rule g a)))
-
-      root-meets : ((rule : Rule) (g : Term) → RuleAt ws cs n rule g → RootMeets (rule .left) g) → RootIs ws cs n false
-      root-meets f =
-          record { is = λ rule g a. (λ e. absurd (false≢true e), λ h. absurd (h (f rule g a))); differs = λ e. absurd (false≢true e) }
-
-      pub root-variable : word ws from ≡ pos 3 → RootIs ws cs n false
-      root-variable e = root-meets (λ rule g a. inl (sym (left-tag rule g a) ∙ e))
-
-      pub root-same : word ws from ≡ word cs 0 → word ws (from + 1) ≡ word cs 1 → RootIs ws cs n false
-      root-same t d = root-meets (λ rule g a. inr (sym (left-tag rule g a) ∙ (t ∙ ground-tag rule g a), sym (left-datum rule g a) ∙ (d ∙ ground-datum rule g a)))
 
   module _ (cs : List ℤ) (starts ends : List ℕ) where
     module _ (rule : Rule) (g : Term) (ρ : Valuation) (m : Matched ws cs n starts ends rule g ρ) where
@@ -134,7 +86,7 @@ module _ (ws : List ℤ) (n : ℕ) where
       pub some-conditions : SomeMatched ws cs n starts ends → SomeConditions ws cs starts ends from to
       some-conditions s = record { valuation = s .valuation; conditions = s .rule .conditions; is = conditions-at (s .rule) (s .configuration) (s .valuation) (s .is) }
 
-      pub hold-is : (r : Bool) → HoldAllIs ws cs starts ends from to r → HoldIs ws cs n starts ends r
+      pub hold-is : (r : Passed) → HoldAllIs ws cs starts ends from to r → HoldIs ws cs n starts ends r
       hold-is r h = record { is = λ rule g ρ m. h .is ρ (rule .conditions) (conditions-at rule g ρ m) }
 
     -- ---- the right

@@ -1,6 +1,6 @@
--- What each way out of `write_within`, `try_rule` and `apply_earliest` says, over plain variables.
+-- What each way out of `write_within` and of `judge` says, over plain variables.
 use mathlib.Core.Path.{_≡_, refl, sym, _∙_, ap, subst}
-use mathlib.Core.Bool.{Bool, true, false}
+use mathlib.Core.Logic.{_↔_}
 use mathlib.Core.Option.{some}
 use mathlib.Core.List.{List}
 use Prim.Native.Nat.{ℕ, _*_, _/_, _≤_, _<_}
@@ -8,25 +8,28 @@ use native.Mathlib.Nat.{min-le-left}
 use native.Mathlib.Omega.{arith}
 use lib.IntN.{ℤ}
 use lib.ListN.{length}
-use Rattle.minuska.specs.Basics.{present}
 use Rattle.minuska.specs.Term.{Term, single, nodeCount}
 use Rattle.minuska.specs.Word.{encode}
-use Rattle.minuska.specs.Satisfaction.{Valuation}
+use Rattle.minuska.specs.Satisfaction.{Valuation, SideCondition}
 use Rattle.minuska.specs.Rule.{Rule, maxNodes}
 use Rattle.minuska.specs.Slice.{outLimit, write}
 use Rattle.minuska.specs.declared.StepAnswer.{StepAnswer}
 use Rattle.minuska.specs.declared.StepAnswer.the-variants as S
 use Rattle.minuska.specs.declared.Refusal.the-variants.{OverLimit}
 use Rattle.minuska.specs.Computed.Match.{tryMatch, unbound}
-use Rattle.minuska.specs.Computed.Value.{value, holdAll}
-use Rattle.minuska.specs.Bridge.Place.{Indexed, Names, Accepted}
-use Rattle.minuska.specs.Contract.{StepByRuleContract}
-use Rattle.minuska.specs.Bridge.Place.{RuleCountIs, ActionIs}
+use Rattle.minuska.specs.Computed.Value.{value}
+use Rattle.minuska.specs.Computed.Step.{successor}
+use Rattle.minuska.specs.Bridge.Place.{Names, Accepted, Binds, ActionIs}
 use Rattle.minuska.proofs.Bridge.AcceptedLaw.{term-length}
 use Rattle.step.specs.declared.right.Fit.{Fit}
 use Rattle.step.specs.declared.right.Fit.the-variants.{Words, TooLarge}
-use Rattle.step.specs.Apply.{RuleAt, Matched, SomeMatched, MatchIs, RootIs, HoldIs, MeasureIs, WordsFit, WriteIs, Instantiated}
-use Rattle.step.proofs.ApplyLaw.{too-large, words-fit, as-large, as-stepped, no-successor, the-successor, unmatched, matched-some, unheld, applied, right-value, past-successor, named}
+use Rattle.step.specs.declared.passed.Passed.{Passed}
+use Rattle.step.specs.declared.passed.Passed.the-variants.{All, Until}
+use Rattle.step.specs.declared.rule.Verdict.{Verdict}
+use Rattle.step.specs.declared.rule.Verdict.the-variants.{Misfit, Applies}
+use Rattle.step.specs.Compare.{Comparison, agreed, apart, comparison, passedBy}
+use Rattle.step.specs.Apply.{Candidate, Matched, SomeMatched, MatchIs, HoldIs, verdictHeld, verdictBy, verdictOf, JudgeIs, MeasureIs, WordsFit, WriteIs, Instantiated}
+use Rattle.step.proofs.ApplyLaw.{too-large, words-fit, as-large, as-stepped, matched-some, verdict-applies}
 
 -- the limit that an out slice gives is within it
 pub limit-fits : (n : ℕ) → 2 * outLimit n ≤ n
@@ -52,52 +55,31 @@ module _ (ws cs : List ℤ) (n : ℕ) (starts ends : List ℕ) (out : List ℤ) 
       fitted : (rule : Rule) (g : Term) (ρ : Valuation) (h : Term) → Matched ws cs n starts ends rule g ρ → value ρ (rule .right) ≡ some h → (k ≡ 2 * nodeCount h) × (nodeCount h ≤ limit)
       fitted rule g ρ h x v = words-fit limit h f (m .is rule g ρ h x v) k t
 
--- ---- `try_rule`
-module _ (ws cs : List ℤ) (index : List ℕ) (n : ℕ) (out : List ℤ) (i : Indexed ws index) (a : Accepted cs) where
-  pub way-past : (count : ℕ) → RuleCountIs ws count → count ≤ n → StepByRuleContract ws cs n out out S.Stuck
-  way-past count c h =
-      let e : count ≡ length (i .table) = c .is (i .table) (i .is) in
-      no-successor ws cs n out (i .table) (a .term) (i .is) (a .is) (past-successor ws cs n (i .table) (a .term) (i .is) (a .is) (omega arith))
+-- ---- `judge`
+module _ (ws cs : List ℤ) (n : ℕ) (starts ends : List ℕ) where
+  judged : (r : Verdict) → ((rule : Rule) (g : Term) → Candidate ws cs n rule g → r ≡ verdictOf rule g) → ((rule : Rule) (g : Term) (ρ : Valuation) → Candidate ws cs n rule g → tryMatch (single (rule .left)) (single g) unbound ≡ some ρ → Binds cs starts ends ρ) → JudgeIs ws cs n starts ends r
+  judged r e b =
+      record { answer = e; applies = λ rule g a. subst (λ (v : Verdict). (v ≡ Applies) ↔ ((h : Term) × (successor rule g ≡ some h))) (sym (e rule g a)) (verdict-applies ws cs n rule g a); binds = b }
 
-  module _ (count : ℕ) (c : RuleCountIs ws count) (below : n < count) where
-    rule-at : (rule : Rule) × RuleAt ws cs n rule (a .term)
-    rule-at = let e : count ≡ length (i .table) = c .is (i .table) (i .is) in named ws cs n (i .table) (a .term) (i .is) (a .is) (omega arith)
+  module _ (p : Passed) (m : MatchIs ws cs n starts ends p) where
+    pub way-misfit : (k : ℕ) → p ≡ Until k → JudgeIs ws cs n starts ends (Misfit k)
+    way-misfit k e = judged (Misfit k) (λ rule g a. pick (rule .conditions) (comparison (rule .left) g) (sym (m .answer rule g a) ∙ e)) (m .binds)
+      where
+        pick : (conds : List SideCondition) (c : Comparison) → passedBy c ≡ Until k → Misfit k ≡ verdictBy conds c
+        pick conds (agreed ρ) q = absurd (let z : _≡_ {A = ℕ} 0 1 = cc in let f : ⊥ = omega arith in f)
+        pick conds (apart j) q = cc
 
-    pub names : Names ws n
-    names = let (rule, r) = rule-at in record { table = r .table; is = r .is; rule = rule; numbered = r .numbered }
+    module _ (all : p ≡ All) where
+      matching : (rule : Rule) (g : Term) (a : Candidate ws cs n rule g) → (ρ : Valuation) × (comparison (rule .left) g ≡ agreed ρ) × Matched ws cs n starts ends rule g ρ
+      matching rule g a =
+          let (ρ, c, e) = matched-some ws cs n rule g a (sym (m .answer rule g a) ∙ all) in
+          (ρ, c, record { at = a; matched = e; binds = m .binds rule g ρ a e })
 
-    pub way-passed : (differs : Bool) → RootIs ws cs n differs → differs ≡ true → StepByRuleContract ws cs n out out S.Stuck
-    way-passed differs k t =
-        let (rule, r) = rule-at in
-        no-successor ws cs n out (r .table) (a .term) (r .is) (a .is) (unmatched ws cs n rule (a .term) r (ap present (k .differs t rule (a .term) r)))
+      pub some-matched : Names ws n → Accepted cs → SomeMatched ws cs n starts ends
+      some-matched a y =
+          let (ρ, c, e) = matching (a .rule) (y .term) (record { table = a .table; is = a .is; numbered = a .numbered; configuration = y .is }) in
+          record { rule = a .rule; configuration = y .term; valuation = ρ; is = e }
 
-    module _ (starts ends : List ℕ) (matched : Bool) (m : MatchIs ws cs n starts ends matched) where
-      pub way-unmatched : matched ≡ false → StepByRuleContract ws cs n out out S.Stuck
-      way-unmatched f =
-          let (rule, r) = rule-at in
-          no-successor ws cs n out (r .table) (a .term) (r .is) (a .is) (unmatched ws cs n rule (a .term) r (sym (m .answer rule (a .term) r) ∙ f))
-
-      module _ (t : matched ≡ true) where
-        matching : (ρ : Valuation) × Matched ws cs n starts ends (rule-at .0) (a .term) ρ
-        matching =
-            let (rule, r) = rule-at in
-            let (ρ, e) = matched-some ws cs n rule (a .term) r (sym (m .answer rule (a .term) r) ∙ t) in
-            (ρ, record { at = r; matched = e; binds = m .binds rule (a .term) ρ r e })
-
-        pub some-matched : SomeMatched ws cs n starts ends
-        some-matched = let (ρ, e) = matching in record { rule = rule-at .0; configuration = a .term; valuation = ρ; is = e }
-
-        module _ (holding : Bool) (h : HoldIs ws cs n starts ends holding) where
-          pub way-unheld : holding ≡ false → StepByRuleContract ws cs n out out S.Stuck
-          way-unheld f =
-              let (rule, r) = rule-at in
-              let (ρ, e) = matching in
-              no-successor ws cs n out (r .table) (a .term) (r .is) (a .is) (unheld ws cs n rule (a .term) r ρ (e .matched) (sym (h .is rule (a .term) ρ e) ∙ f))
-
-          pub way-applied : holding ≡ true → (out′ : List ℤ) (s : StepAnswer) → Instantiated ws cs n starts ends out out′ s → StepByRuleContract ws cs n out out′ s
-          way-applied y out′ s z =
-              let (rule, r) = rule-at in
-              let (ρ, e) = matching in
-              let (v, w) = right-value ws cs n rule (a .term) r ρ (e .matched) in
-              the-successor ws cs n out rule (a .term) v r (applied ws cs n rule (a .term) r ρ (e .matched) v (sym (h .is rule (a .term) ρ e) ∙ y) w) out′ s
-              (z .answer rule (a .term) ρ v e w) (z .leaves rule (a .term) ρ v e w)
+      pub way-held : (q : Passed) → HoldIs ws cs n starts ends q → (r : Verdict) → r ≡ verdictHeld q → JudgeIs ws cs n starts ends r
+      way-held q h r e =
+          judged r (λ rule g a. let (ρ, c, x) = matching rule g a in e ∙ (ap verdictHeld (h .is rule g ρ x) ∙ sym (ap (verdictBy (rule .conditions)) c))) (m .binds)

@@ -1,30 +1,36 @@
 -- One rule at one configuration, over checked words. Each statement is about every rule and term that the words can be: there is only one of each.
 use mathlib.Core.Path.{_≡_}
-use mathlib.Core.Bool.{Bool, true, cond}
+use mathlib.Core.Bool.{cond}
 use mathlib.Core.Logic.{_↔_}
-use mathlib.Core.Option.{none, some}
+use mathlib.Core.Option.{some}
 use mathlib.Core.List.{List}
 use Prim.Native.Nat.{ℕ, _≤_}
 use lib.IntN.{ℤ}
 use lib.Dec.{leb}
 use lib.ListN.{length, getElem?}
-use Rattle.minuska.specs.Basics.{present}
 use Rattle.minuska.specs.Term.{Term, single, nodeCount}
 use Rattle.minuska.specs.Word.{encode}
-use Rattle.minuska.specs.Satisfaction.{Valuation}
+use Rattle.minuska.specs.Satisfaction.{Valuation, SideCondition}
 use Rattle.minuska.specs.Rule.{Rule, Table, IsTable, IsConfiguration}
 use Rattle.minuska.specs.Slice.{write, outLimit}
 use Rattle.minuska.specs.declared.StepAnswer.{StepAnswer}
 use Rattle.minuska.specs.declared.StepAnswer.the-variants as S
 use Rattle.minuska.specs.declared.Refusal.the-variants.{OverLimit}
 use Rattle.minuska.specs.Computed.Match.{tryMatch, unbound}
-use Rattle.minuska.specs.Computed.Value.{value, holdAll}
-use Rattle.minuska.specs.Bridge.Place.{Binds, RootMeets}
+use Rattle.minuska.specs.Computed.Value.{value}
+use Rattle.minuska.specs.Computed.Step.{successor}
+use Rattle.minuska.specs.Bridge.Place.{Binds}
+use Rattle.step.specs.declared.passed.Passed.{Passed}
+use Rattle.step.specs.declared.passed.Passed.the-variants.{All, Until}
+use Rattle.step.specs.declared.rule.Verdict.{Verdict}
+use Rattle.step.specs.declared.rule.Verdict.the-variants.{Misfit, Fails, Applies}
+use Rattle.step.specs.Compare.{Comparison, agreed, apart, comparison, passedBy}
+use Rattle.step.specs.Conditions.{heldBy}
 use Rattle.step.specs.declared.right.Fit.{Fit}
 use Rattle.step.specs.declared.right.Fit.the-variants.{Words, TooLarge}
 
 -- rule number n of the table that the words are, and the configuration that they are
-pub record RuleAt (ws cs : List ℤ) (n : ℕ) (rule : Rule) (g : Term) : Type 0 where
+pub record Candidate (ws cs : List ℤ) (n : ℕ) (rule : Rule) (g : Term) : Type 0 where
   pub table : Table
   pub is : IsTable ws table
   pub numbered : getElem? table n ≡ some rule
@@ -32,7 +38,7 @@ pub record RuleAt (ws cs : List ℤ) (n : ℕ) (rule : Rule) (g : Term) : Type 0
 
 -- its left matches the configuration under ρ, and the two arrays hold where ρ's terms stand
 pub record Matched (ws cs : List ℤ) (n : ℕ) (starts ends : List ℕ) (rule : Rule) (g : Term) (ρ : Valuation) : Type 0 where
-  pub at : RuleAt ws cs n rule g
+  pub at : Candidate ws cs n rule g
   pub matched : tryMatch (single (rule .left)) (single g) unbound ≡ some ρ
   pub binds : Binds cs starts ends ρ
 
@@ -43,19 +49,32 @@ pub record SomeMatched (ws cs : List ℤ) (n : ℕ) (starts ends : List ℕ) : T
   pub valuation : Valuation
   pub is : Matched ws cs n starts ends rule configuration valuation
 
--- the left's answer: whether it matches, and then where the variables' terms stand
-pub record MatchIs (ws cs : List ℤ) (n : ℕ) (starts′ ends′ : List ℕ) (r : Bool) : Type 0 where
-  pub answer : (rule : Rule) (g : Term) → RuleAt ws cs n rule g → r ≡ present (tryMatch (single (rule .left)) (single g) unbound)
-  pub binds : (rule : Rule) (g : Term) (ρ : Valuation) → RuleAt ws cs n rule g → tryMatch (single (rule .left)) (single g) unbound ≡ some ρ → Binds cs starts′ ends′ ρ
+-- the left's answer: how far it agrees, and, if it matches, where the variables' terms stand
+pub record MatchIs (ws cs : List ℤ) (n : ℕ) (starts′ ends′ : List ℕ) (r : Passed) : Type 0 where
+  pub answer : (rule : Rule) (g : Term) → Candidate ws cs n rule g → r ≡ passedBy (comparison (rule .left) g)
+  pub binds : (rule : Rule) (g : Term) (ρ : Valuation) → Candidate ws cs n rule g → tryMatch (single (rule .left)) (single g) unbound ≡ some ρ → Binds cs starts′ ends′ ρ
 
--- whether the left's root and the configuration's do not meet; and then the left does not match
-pub record RootIs (ws cs : List ℤ) (n : ℕ) (r : Bool) : Type 0 where
-  pub is : (rule : Rule) (g : Term) → RuleAt ws cs n rule g → (r ≡ true) ↔ (RootMeets (rule .left) g → ⊥)
-  pub differs : r ≡ true → (rule : Rule) (g : Term) → RuleAt ws cs n rule g → tryMatch (single (rule .left)) (single g) unbound ≡ none
+-- the conditions' answer: how far they hold
+pub record HoldIs (ws cs : List ℤ) (n : ℕ) (starts ends : List ℕ) (r : Passed) : Type 0 where
+  pub is : (rule : Rule) (g : Term) (ρ : Valuation) → Matched ws cs n starts ends rule g ρ → r ≡ heldBy ρ (rule .conditions)
 
--- the conditions' answer: whether all hold
-pub record HoldIs (ws cs : List ℤ) (n : ℕ) (starts ends : List ℕ) (r : Bool) : Type 0 where
-  pub is : (rule : Rule) (g : Term) (ρ : Valuation) → Matched ws cs n starts ends rule g ρ → r ≡ holdAll ρ (rule .conditions)
+-- both: the first left node that disagrees, or else the first condition that fails, or else that the rule applies
+abbrev pub verdictHeld : Passed → Verdict
+verdictHeld All = Applies
+verdictHeld (Until k) = Fails k
+
+abbrev pub verdictBy : List SideCondition → Comparison → Verdict
+verdictBy conds (agreed ρ) = verdictHeld (heldBy ρ conds)
+verdictBy conds (apart k) = Misfit k
+
+abbrev pub verdictOf : Rule → Term → Verdict
+verdictOf rule g = verdictBy (rule .conditions) (comparison (rule .left) g)
+
+-- the verdict; it applies exactly if there is a successor, and then the arrays hold where the variables' terms stand
+pub record JudgeIs (ws cs : List ℤ) (n : ℕ) (starts′ ends′ : List ℕ) (r : Verdict) : Type 0 where
+  pub answer : (rule : Rule) (g : Term) → Candidate ws cs n rule g → r ≡ verdictOf rule g
+  pub applies : (rule : Rule) (g : Term) → Candidate ws cs n rule g → (r ≡ Applies) ↔ ((h : Term) × (successor rule g ≡ some h))
+  pub binds : (rule : Rule) (g : Term) (ρ : Valuation) → Candidate ws cs n rule g → tryMatch (single (rule .left)) (single g) unbound ≡ some ρ → Binds cs starts′ ends′ ρ
 
 -- the right's words: how many they are, if there is room for them
 unfoldable pub fitOf : ℕ → ℕ → Fit

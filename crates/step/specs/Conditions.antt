@@ -1,6 +1,6 @@
 -- A rule's conditions, one behind the other: two expressions each, all worth a term.
 use mathlib.Core.Path.{_≡_}
-use mathlib.Core.Bool.{Bool}
+use mathlib.Core.Bool.{Bool, true, false, cond}
 use mathlib.Core.Option.{some}
 use mathlib.Core.List.{List, [], _∷_}
 use Prim.Native.Nat.{ℕ, _+_}
@@ -11,8 +11,23 @@ use Rattle.minuska.specs.Term.{Term, single}
 use Rattle.minuska.specs.Word.{ok}
 use Rattle.minuska.specs.Satisfaction.{Valuation, SideCondition}
 use Rattle.minuska.specs.Rule.{isExpression, conditionWords}
-use Rattle.minuska.specs.Computed.Value.{value, holdAll}
+use Rattle.minuska.specs.Computed.Value.{value, holds}
 use Rattle.minuska.specs.Bridge.Place.{Stands, Binds}
+use Rattle.step.specs.declared.passed.Passed.{Passed}
+use Rattle.step.specs.declared.passed.Passed.the-variants.{All, Until}
+
+-- how far they hold, in their order: all, or up to the first that fails
+abbrev pub furtherBy : ℕ → Passed → Passed
+furtherBy n All = All
+furtherBy n (Until k) = Until (n + k)
+
+abbrev pub allOf : Passed → Bool
+allOf All = true
+allOf (Until k) = false
+
+abbrev pub heldBy : Valuation → List SideCondition → Passed
+heldBy ρ [] = All
+heldBy ρ (c ∷ cs) = cond (holds ρ c) (furtherBy 1 (heldBy ρ cs)) (Until 0)
 
 pub record Side (ρ : Valuation) (e : Term) : Type 0 where
   pub good : T (ok (single e))
@@ -37,5 +52,5 @@ module _ (ws cs : List ℤ) (starts ends : List ℕ) where
     pub conditions : List SideCondition
     pub is : Conditions at end valuation conditions
 
-  pub record HoldAllIs (at end : ℕ) (r : Bool) : Type 0 where
-    pub is : (ρ : Valuation) (conds : List SideCondition) → Conditions at end ρ conds → r ≡ holdAll ρ conds
+  pub record HoldAllIs (at end : ℕ) (r : Passed) : Type 0 where
+    pub is : (ρ : Valuation) (conds : List SideCondition) → Conditions at end ρ conds → r ≡ heldBy ρ conds

@@ -1,4 +1,6 @@
 pub mod Apply
+pub mod Among
+pub mod Compare
 pub mod Matching
 pub mod Conditions
 pub mod Right

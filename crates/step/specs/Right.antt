@@ -1,5 +1,6 @@
 -- The words of a right, item by item: a plain node's two words, a variable's part, or a call's value.
 use mathlib.Core.Path.{_≡_}
+use mathlib.Core.Bool.{Bool, true}
 use mathlib.Core.Option.{some}
 use mathlib.Core.List.{List, _++_}
 use Prim.Native.Nat.{ℕ, _+_, _≤_, _<_}
@@ -13,6 +14,7 @@ use Rattle.minuska.specs.Rule.{isExpressionTerm}
 use Rattle.minuska.specs.Slice.{write}
 use Rattle.minuska.specs.Bridge.Walk.{emit}
 use Rattle.minuska.specs.Bridge.Place.{Stands, Binds}
+use Rattle.term.specs.TermAt.{TermEnds}
 use Rattle.value.specs.declared.Evaluated.{Evaluated}
 use Rattle.value.specs.Value.{valueWords, Within}
 use Rattle.step.specs.declared.right.Fit.{Fit}
@@ -57,6 +59,9 @@ module _ (ws cs : List ℤ) (starts ends : List ℕ) where
     pub many : r .words ≡ length first
     pub leads : Leads at end ρ us first (r .next)
 
+  pub record SizedIs (at end : ℕ) (r : Sized) : Type 0 where
+    pub is : (ρ : Valuation) (f : Forest) (us : List ℤ) → Rest at end ρ f us → SizedOf at end ρ us r
+
   -- all items: how many words, if there is room; the words themselves, written from the start of a slice
   pub record MeasureRightIs (at end room : ℕ) (r : Fit) : Type 0 where
     pub is : (ρ : Valuation) (f : Forest) (us : List ℤ) → Rest at end ρ f us → r ≡ fitOf room (length us)
@@ -68,20 +73,19 @@ module _ (ws cs : List ℤ) (starts ends : List ℕ) where
   pub record WriteRightIs (at end : ℕ) (out out′ : List ℤ) : Type 0 where
     pub is : (ρ : Valuation) (f : Forest) (us : List ℤ) → Rest at end ρ f us → out′ ≡ write us out
 
--- Where an item lies, and its size, show in the table and in the two arrays alone, whatever configuration they point into.
+-- Where an item that is no call lies shows in the table and in the two arrays alone, whatever configuration they point into.
 module _ (ws : List ℤ) (starts ends : List ℕ) (at : ℕ) where
-  pub record SomeItem : Type 0 where
+  pub record SomePiece : Type 0 where
     pub configuration : List ℤ
     pub end : ℕ
     pub before : at < end
     pub rest : SomeRest ws configuration starts ends at end
-
-  pub record SomePiece : Type 0 where
-    pub item : SomeItem
     pub noCall : getD ws at (pos 0) ≡ pos 4 → ⊥
 
   pub record PieceIs (r : Evaluated) : Type 0 where
     pub is : (cs : List ℤ) (end : ℕ) (ρ : Valuation) (f : Forest) (us : List ℤ) → at < end → Rest ws cs starts ends at end ρ f us → ItemOf ws cs starts ends at end ρ us r
 
-  pub record SizedIs (r : Sized) : Type 0 where
-    pub is : (cs : List ℤ) (end : ℕ) (ρ : Valuation) (f : Forest) (us : List ℤ) → at < end → Rest ws cs starts ends at end ρ f us → SizedOf ws cs starts ends at end ρ us r
+-- A CALL WHOSE VALUE IS ONE NODE, two words, whatever its arguments are worth: so is the value of every function (`proofs/RightLaw.one-node`).
+pub record OneNodeIs (ws : List ℤ) (at : ℕ) (r : Bool) : Type 0 where
+  pub call : r ≡ true → getD ws at (pos 0) ≡ pos 4
+  pub size : r ≡ true → (cs : List ℤ) (starts ends : List ℕ) (end : ℕ) (ρ : Valuation) (f : Forest) (us : List ℤ) → at < end → Rest ws cs starts ends at end ρ f us → (next : ℕ) → TermEnds ws at next → SizedOf ws cs starts ends at end ρ us (record { words = 2; next = next })

@@ -1,4 +1,5 @@
 // A rule's conditions, one after the other.
+use crate::passed::Passed;
 ghost use Rattle.step.specs.Conditions.{SomeConditions, HoldAllIs};
 
 // Whether all conditions that stand from a place up to another hold.
@@ -9,17 +10,19 @@ pub fn hold_all<'a>(
     end: usize,
     starts: &[usize; 16],
     ends: &[usize; 16],
-) -> bool
+) -> Passed
     requires { ⌜ SomeConditions (now table) (now configuration) (now starts) (now ends) at end ⌝ }
     ensures { λ r. ⌜ HoldAllIs (now (table .entry)) (now (configuration .entry)) (now (starts .entry)) (now (ends .entry)) at end r ⌝ }
 {
     let mut i = at;
+    let mut held = 0;
     while i < end {
         let c = value::condition(table, configuration, i, starts, ends);
         if !c.holds {
-            return false;
+            return Passed::Until(held);
         }
         i = c.next;
+        held += 1;
     }
-    true
+    Passed::All
 }

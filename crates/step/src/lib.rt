@@ -1,6 +1,7 @@
 // One step: by a given rule, and by the earliest that applies.
 mod conditions;
 mod matching;
+mod passed;
 mod right;
 mod rule;
 
@@ -11,11 +12,18 @@ use minuska::Refusal;
 use minuska::StepAnswer;
 use right::Fit;
 ghost use mathlib.Core.Path.{_≡_};
+ghost use Prim.Native.Nat.{_≤_};
 ghost use Rattle.minuska.specs.Contract.{StepByRuleContract, StepContract};
-ghost use Rattle.minuska.specs.Bridge.Place.{Indexed, Accepted, RuleCountIs, ActionIs, OrderedIs, Decides};
+ghost use Rattle.minuska.specs.Bridge.Place.{Indexed, Names, Accepted, RuleCountIs, ActionIs, OrderedIs, Positions};
 ghost use Rattle.minuska.specs.Slice.{outLimit};
 ghost use Rattle.step.specs.Accept.{AcceptContract};
 ghost use Rattle.step.specs.Apply.{SomeMatched, Instantiated};
+ghost use Rattle.step.specs.Among.{AmongIs};
+
+// Tags of nodes.
+const VARIABLE: i64 = 3;
+
+const CALL: i64 = 4;
 
 // The step by one given rule, of checked words.
 pub fn apply_rule<'a>(
@@ -28,42 +36,61 @@ pub fn apply_rule<'a>(
     requires { ⌜ Indexed (now table) (now index) × Accepted (now configuration) ⌝ }
     ensures { λ r. ⌜ StepByRuleContract (now (table .entry)) (now (configuration .entry)) rule (now (out .entry)) (now (out .exit)) r ⌝ }
 {
-    let mut starts = [0usize; 16];
-    let mut ends = [0usize; 16];
-    try_rule(
-        table,
-        index,
-        configuration,
-        rule,
-        &mut starts,
-        &mut ends,
-        out,
-    )
-}
-
-// The same, with two arrays lent for where the left's variables stand.
-fn try_rule<'a>(
-    table: &'a [i64],
-    index: &Index,
-    configuration: &'a [i64],
-    rule: usize,
-    starts: &mut [usize; 16],
-    ends: &mut [usize; 16],
-    out: &mut [i64],
-) -> StepAnswer
-    requires { ⌜ Indexed (now table) (now index) × Accepted (now configuration) ⌝ }
-    ensures { λ r. ⌜ StepByRuleContract (now (table .entry)) (now (configuration .entry)) rule (now (out .entry)) (now (out .exit)) r ⌝ }
-{
     if table::rule_count(table, index) <= rule {
         return StepAnswer::Stuck;
     }
-    if !rule::match_rule(table, index, rule, configuration, starts, ends) {
+    apply_among(table, index, configuration, rule, 0, 0, out)
+}
+
+// The step, of checked words.
+pub fn apply_earliest<'a>(
+    table: &'a [i64],
+    index: &Index,
+    configuration: &'a [i64],
+    out: &mut [i64],
+) -> StepAnswer
+    requires { ⌜ Indexed (now table) (now index) × Accepted (now configuration) ⌝ }
+    ensures { λ r. ⌜ StepContract (now (table .entry)) (now (configuration .entry)) (now (out .entry)) (now (out .exit)) r ⌝ }
+{
+    let count = table::rule_count(table, index);
+    let first = table::key::seek(table, index, configuration, 0, count);
+    if count <= first {
         return StepAnswer::Stuck;
     }
-    if !rule::conditions_hold(table, index, rule, configuration, starts, ends) {
-        return StepAnswer::Stuck;
+    let rule = table::ordered(table, index, first);
+    apply_among(table, index, configuration, rule, first + 1, count, out)
+}
+
+// The first that applies of a rule and of those at the positions behind it, from one up to another.
+fn apply_among<'a>(
+    table: &'a [i64],
+    index: &Index,
+    configuration: &'a [i64],
+    first: usize,
+    from: usize,
+    to: usize,
+    out: &mut [i64],
+) -> StepAnswer
+    requires { ⌜ Indexed (now table) (now index) × Accepted (now configuration) ⌝ }
+    requires { ⌜ Names (now table) first × Positions (now table) to × (from ≤ to) ⌝ }
+    ensures { λ r. ⌜ AmongIs (now (table .entry)) (now (configuration .entry)) first from to (now (out .entry)) (now (out .exit)) r ⌝ }
+{
+    let mut starts = [0usize; 16];
+    let mut ends = [0usize; 16];
+    let mut rule = first;
+    let mut i = from;
+    loop {
+        let verdict = rule::judge(table, index, rule, configuration, &mut starts, &mut ends);
+        if rule::applies(verdict) {
+            return write_within(table, index, configuration, rule, &starts, &ends, out);
+        }
+        i = table::key::seek(table, index, configuration, i, to);
+        if to <= i {
+            return StepAnswer::Stuck;
+        }
+        rule = table::ordered(table, index, i);
+        i += 1;
     }
-    write_within(table, index, configuration, rule, starts, ends, out)
 }
 
 // The successor by a rule whose left matches and whose conditions hold, if it is within the limit that out gives.
@@ -86,7 +113,7 @@ fn write_within<'a>(
             rule::write_successor(table, index, rule, configuration, starts, ends, out);
             StepAnswer::Stepped {
                 rule,
-                action: table::action(table, index, rule),
+                action: table::index::action(table, index, rule),
                 nodes: n / 2,
             }
         }
@@ -98,57 +125,6 @@ fn out_limit(words: usize) -> usize
     ensures { λ r. ⌜ r ≡ outLimit words ⌝ }
 {
     if words < 65536 { words / 2 } else { 32768 }
-}
-
-// The step, of checked words. Most rules of a table show at the left's root that they do not apply: these are passed over, and not tried.
-pub fn apply_earliest<'a>(
-    table: &'a [i64],
-    index: &Index,
-    configuration: &'a [i64],
-    out: &mut [i64],
-) -> StepAnswer
-    requires { ⌜ Indexed (now table) (now index) × Accepted (now configuration) ⌝ }
-    ensures { λ r. ⌜ StepContract (now (table .entry)) (now (configuration .entry)) (now (out .entry)) (now (out .exit)) r ⌝ }
-{
-    let mut starts = [0usize; 16];
-    let mut ends = [0usize; 16];
-    let count = table::rule_count(table, index);
-    let mut i = 0;
-    while i < count {
-        let rule = table::ordered(table, index, i);
-        i += 1;
-        if rule::root_differs(table, index, rule, configuration) {
-            continue;
-        }
-        let tried = try_rule(
-            table,
-            index,
-            configuration,
-            rule,
-            &mut starts,
-            &mut ends,
-            out,
-        );
-        if !is_stuck(tried) {
-            return tried;
-        }
-    }
-    StepAnswer::Stuck
-}
-
-// Whether a rule did not apply.
-fn is_stuck(answer: StepAnswer) -> bool
-    ensures { λ r. ⌜ Decides r (answer ≡ StepAnswer.Stuck) ⌝ }
-{
-    match answer {
-        StepAnswer::Stuck => true,
-        StepAnswer::Stepped {
-            rule: _,
-            action: _,
-            nodes: _,
-        } => false,
-        StepAnswer::Refused(_) => false,
-    }
 }
 
 // Refusals 1 and 2, in order; where there is none, the index is the table's.

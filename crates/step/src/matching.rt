@@ -1,12 +1,13 @@
 // Matching a left against a configuration, in one walk over both.
+use crate::passed::Passed;
 ghost use mathlib.Core.Path.{_≡_};
 ghost use Prim.Native.Nat.{_<_};
 ghost use lib.ListN.{length};
 ghost use Rattle.minuska.specs.Bridge.Place.{Accepted};
-ghost use Rattle.step.specs.Matching.{LeftIn, MatchContract, TurnFrom, Turned, Put};
+ghost use Rattle.step.specs.Matching.{LeftIn, MatchContract, TurnFrom, LeftTurned, Put};
 
 // What a node of a left finds at the configuration's term that the walk has come to.
-pub enum Turn {
+pub enum LeftTurn {
     // the same node
     Same,
     // a variable that has no part yet: its number, and the end of the term, which is its part
@@ -27,37 +28,41 @@ fn turn_at(
     j: usize,
     starts: &[usize; 16],
     ends: &[usize; 16],
-) -> Turn
+) -> LeftTurn
     requires { ⌜ TurnFrom (now table) i end (now configuration) j (now starts) (now ends) ⌝ }
-    ensures { λ r. ⌜ Turned (now (table .entry)) i end (now (configuration .entry)) j (now (starts .entry)) (now (ends .entry)) r ⌝ }
+    ensures { λ r. ⌜ LeftTurned (now (table .entry)) i end (now (configuration .entry)) j (now (starts .entry)) (now (ends .entry)) r ⌝ }
 {
     let t = term::word(table, i);
     let d = term::word(table, i + 1);
-    if t != 3 {
+    if t != crate::VARIABLE {
         if t != term::word(configuration, j) {
-            return Turn::Misfit;
+            return LeftTurn::Misfit;
         }
         if d != term::word(configuration, j + 1) {
-            return Turn::Misfit;
+            return LeftTurn::Misfit;
         }
-        return Turn::Same;
+        return LeftTurn::Same;
     }
     let v = d as usize;
     let to = ends[v];
     if to == 0 {
         if i + 2 == end {
-            return Turn::Bind(v, configuration.len());
+            return LeftTurn::Bind(v, configuration.len());
         }
         let e = term::ground_end(configuration, j);
-        return Turn::Bind(v, e);
+        return LeftTurn::Bind(v, e);
     }
     let from = starts[v];
     let e = j + (to - from);
     if configuration.len() < e {
-        return Turn::Misfit;
+        return LeftTurn::Misfit;
     }
     let same = words::same(&configuration[from..to], &configuration[j..e]);
-    if same { Turn::Again(e) } else { Turn::Misfit }
+    if same {
+        LeftTurn::Again(e)
+    } else {
+        LeftTurn::Misfit
+    }
 }
 
 // One number of an array.
@@ -68,7 +73,7 @@ fn put(s: &mut [usize], v: usize, x: usize)
     s[v] = x;
 }
 
-// Matches the left that stands in table[at..end] against the whole configuration; the parts of its variables go to starts and ends.
+// Matches the left that stands in table[at..end] against the whole configuration: how many of its nodes agree. The parts of its variables go to starts and ends.
 pub fn match_left(
     table: &[i64],
     at: usize,
@@ -76,7 +81,7 @@ pub fn match_left(
     configuration: &[i64],
     starts: &mut [usize; 16],
     ends: &mut [usize; 16],
-) -> bool
+) -> Passed
     requires { ⌜ LeftIn (now table) at end ⌝ }
     requires { ⌜ Accepted (now configuration) ⌝ }
     ensures { λ r. ⌜ MatchContract (now (table .entry)) at end (now (configuration .entry)) (now (starts .entry)) (now (starts .exit)) (now (ends .exit)) r ⌝ }
@@ -88,21 +93,21 @@ pub fn match_left(
         let turn = turn_at(table, i, end, configuration, j, starts, ends);
         i += 2;
         match turn {
-            Turn::Same => {
+            LeftTurn::Same => {
                 j += 2;
             }
-            Turn::Bind(v, e) => {
+            LeftTurn::Bind(v, e) => {
                 put(starts, v, j);
                 put(ends, v, e);
                 j = e;
             }
-            Turn::Again(e) => {
+            LeftTurn::Again(e) => {
                 j = e;
             }
-            Turn::Misfit => {
-                return false;
+            LeftTurn::Misfit => {
+                return Passed::Until((i - at) / 2 - 1);
             }
         }
     }
-    true
+    Passed::All
 }

@@ -3,7 +3,7 @@ use value::Evaluated;
 use value::Value;
 ghost use Prim.Native.Nat.{_<_};
 ghost use lib.ListN.{length};
-ghost use Rattle.step.specs.Right.{SomeRest, ItemIs, SomeItem, SomePiece, PieceIs, SizedIs, MeasureRightIs, FittingRest, WriteRightIs};
+ghost use Rattle.step.specs.Right.{SomeRest, ItemIs, SomePiece, PieceIs, OneNodeIs, SizedIs, MeasureRightIs, FittingRest, WriteRightIs};
 
 // How many words a successor has, or that there is no room for them.
 pub enum Fit {
@@ -16,7 +16,7 @@ pub fn piece(table: &[i64], at: usize, starts: &[usize; 16], ends: &[usize; 16])
     requires { ⌜ SomePiece (now table) (now starts) (now ends) at ⌝ }
     ensures { λ r. ⌜ PieceIs (now (table .entry)) (now (starts .entry)) (now (ends .entry)) at r ⌝ }
 {
-    if term::word(table, at) == 3 {
+    if term::word(table, at) == crate::VARIABLE {
         let v = term::word(table, at + 1) as usize;
         let from = starts[v];
         let to = ends[v];
@@ -43,7 +43,7 @@ pub fn item(
     requires { ⌜ SomeRest (now table) (now configuration) (now starts) (now ends) at end × (at < end) ⌝ }
     ensures { λ r. ⌜ ItemIs (now (table .entry)) (now (configuration .entry)) (now (starts .entry)) (now (ends .entry)) at end r ⌝ }
 {
-    if term::word(table, at) == 4 {
+    if term::word(table, at) == crate::CALL {
         return value::evaluate(table, configuration, at, starts, ends);
     }
     piece(table, at, starts, ends)
@@ -55,19 +55,37 @@ pub struct Sized {
     pub next: usize,
 }
 
-// One item's size, without its value: a call's value is one node, whatever its arguments are worth.
-pub fn item_size(table: &[i64], at: usize, starts: &[usize; 16], ends: &[usize; 16]) -> Sized
-    requires { ⌜ SomeItem (now table) (now starts) (now ends) at ⌝ }
-    ensures { λ r. ⌜ SizedIs (now (table .entry)) (now (starts .entry)) (now (ends .entry)) at r ⌝ }
+// Whether a call stands at a place whose value is one node, whatever its arguments are worth: so is every call's. Such a call is measured without its value.
+fn gives_one_node(table: &[i64], at: usize) -> bool
+    requires { ⌜ at < length (now table) ⌝ }
+    ensures { λ r. ⌜ OneNodeIs (now (table .entry)) at r ⌝ }
 {
-    if term::word(table, at) == 4 {
+    if term::word(table, at) == crate::CALL {
+        return true;
+    }
+    false
+}
+
+// One item's size.
+pub fn item_size(
+    table: &[i64],
+    configuration: &[i64],
+    at: usize,
+    end: usize,
+    starts: &[usize; 16],
+    ends: &[usize; 16],
+) -> Sized
+    requires { ⌜ SomeRest (now table) (now configuration) (now starts) (now ends) at end × (at < end) ⌝ }
+    ensures { λ r. ⌜ SizedIs (now (table .entry)) (now (configuration .entry)) (now (starts .entry)) (now (ends .entry)) at end r ⌝ }
+{
+    if gives_one_node(table, at) {
         let next = term::expression_end(table, at);
         return Sized {
             words: 2,
             next: next,
         };
     }
-    let x = piece(table, at, starts, ends);
+    let x = item(table, configuration, at, end, starts, ends);
     let v = x.value;
     let n = value::size(v);
     Sized {
@@ -92,7 +110,7 @@ pub fn measure_right(
     let mut i = at;
     let mut left = room;
     while i < end {
-        let x = item_size(table, i, starts, ends);
+        let x = item_size(table, configuration, i, end, starts, ends);
         let n = x.words;
         if left < n {
             return Fit::TooLarge;

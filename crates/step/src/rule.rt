@@ -1,11 +1,54 @@
 // One rule at a configuration, over checked words and the table's index: its left, its conditions, the words of its right.
+use crate::passed::Passed;
 use crate::right::Fit;
 use minuska::Index;
+ghost use mathlib.Core.Path.{_≡_};
 ghost use lib.ListN.{length};
-ghost use Rattle.minuska.specs.Bridge.Place.{Indexed, Names, Accepted};
-ghost use Rattle.step.specs.Apply.{SomeMatched, MatchIs, RootIs, HoldIs, MeasureIs, WordsFit, WriteIs};
+ghost use Rattle.minuska.specs.Bridge.Place.{Indexed, Names, Accepted, Decides};
+ghost use Rattle.step.specs.Apply.{SomeMatched, MatchIs, HoldIs, JudgeIs, MeasureIs, WordsFit, WriteIs};
 
-// Whether the rule's left matches the configuration; if so, the places of its variables' terms stand in starts and ends.
+// Whether a rule applies to a configuration, or why not.
+pub enum Verdict {
+    // its left does not match: the place, from 0, of the first of the left's nodes in preorder that disagrees
+    Misfit(usize),
+    // its left matches: the number, from 0, of its first condition that fails
+    Fails(usize),
+    Applies,
+}
+
+// Judges a rule. Where it applies, the places of its variables' terms stand in starts and ends.
+pub fn judge<'a>(
+    table: &'a [i64],
+    index: &Index,
+    rule: usize,
+    configuration: &'a [i64],
+    starts: &mut [usize; 16],
+    ends: &mut [usize; 16],
+) -> Verdict
+    requires { ⌜ Indexed (now table) (now index) × Accepted (now configuration) × Names (now table) rule ⌝ }
+    ensures { λ r. ⌜ JudgeIs (now (table .entry)) (now (configuration .entry)) rule (now (starts .exit)) (now (ends .exit)) r ⌝ }
+{
+    match match_rule(table, index, rule, configuration, starts, ends) {
+        Passed::Until(place) => Verdict::Misfit(place),
+        Passed::All => match hold_conditions(table, index, rule, configuration, starts, ends) {
+            Passed::Until(number) => Verdict::Fails(number),
+            Passed::All => Verdict::Applies,
+        },
+    }
+}
+
+// Whether a verdict is that a rule applies.
+pub fn applies(verdict: Verdict) -> bool
+    ensures { λ r. ⌜ Decides r (verdict ≡ Verdict.Applies) ⌝ }
+{
+    match verdict {
+        Verdict::Applies => true,
+        Verdict::Misfit(_) => false,
+        Verdict::Fails(_) => false,
+    }
+}
+
+// How far the rule's left matches the configuration; the places of its variables' terms go to starts and ends.
 pub fn match_rule(
     table: &[i64],
     index: &Index,
@@ -13,7 +56,7 @@ pub fn match_rule(
     configuration: &[i64],
     starts: &mut [usize; 16],
     ends: &mut [usize; 16],
-) -> bool
+) -> Passed
     requires { ⌜ Indexed (now table) (now index) × Accepted (now configuration) × Names (now table) rule ⌝ }
     ensures { λ r. ⌜ MatchIs (now (table .entry)) (now (configuration .entry)) rule (now (starts .exit)) (now (ends .exit)) r ⌝ }
 {
@@ -21,35 +64,15 @@ pub fn match_rule(
     crate::matching::match_left(table, left.from, left.to, configuration, starts, ends)
 }
 
-// Whether the left's root already says that the left does not match: it is no variable, and its words are not those of the configuration's root.
-pub fn root_differs(table: &[i64], index: &Index, rule: usize, configuration: &[i64]) -> bool
-    requires { ⌜ Indexed (now table) (now index) × Accepted (now configuration) × Names (now table) rule ⌝ }
-    ensures { λ r. ⌜ RootIs (now (table .entry)) (now (configuration .entry)) rule r ⌝ }
-{
-    let left = table::index::left(table, index, rule);
-    let at = left.from;
-    let t = term::word(table, at);
-    if t == 3 {
-        return false;
-    }
-    if t != term::word(configuration, 0) {
-        return true;
-    }
-    if term::word(table, at + 1) != term::word(configuration, 1) {
-        return true;
-    }
-    false
-}
-
-// Whether the rule's conditions hold.
-pub fn conditions_hold<'a>(
+// How far the rule's conditions hold.
+pub fn hold_conditions<'a>(
     table: &'a [i64],
     index: &Index,
     rule: usize,
     configuration: &'a [i64],
     starts: &[usize; 16],
     ends: &[usize; 16],
-) -> bool
+) -> Passed
     requires { ⌜ Indexed (now table) (now index) × SomeMatched (now table) (now configuration) rule (now starts) (now ends) ⌝ }
     ensures { λ r. ⌜ HoldIs (now (table .entry)) (now (configuration .entry)) rule (now (starts .entry)) (now (ends .entry)) r ⌝ }
 {

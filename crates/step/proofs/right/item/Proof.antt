@@ -34,7 +34,7 @@ returns c =
 piece-requires : tie.Need-piece-requires
 piece-requires c κs =
     let s = c .before .before in
-    record { item = record { configuration = s .args .configuration .now; end = s .args .end; before = s .pre .1; rest = s .pre .0 }; noCall = λ e. c .if1 .left (ap (ofZ w64) (c .before .word .ensures ∙ e)) }
+    record { configuration = s .args .configuration .now; end = s .args .end; before = s .pre .1; rest = s .pre .0; noCall = λ e. c .if1 .left (ap (ofZ w64) (c .before .word .ensures ∙ e)) }
 
 returns-2 : tie.Need-returns-2
 returns-2 c =

@@ -18,28 +18,28 @@ item-size-requires : tie.Need-item-size-requires Inv-loop μ-loop
 item-size-requires c κs =
     let l = c .before in
     let s = l .before in
-    measuring-rest (s .args .table .now) (s .args .configuration .now) (s .args .starts .now) (s .args .ends .now) (s .args .at) (s .args .end) (s .args .room) (l .loop .i) (l .loop .left) (l .loop .inv .1) (s .pre) (c .loop-test .taken)
+    (measuring-rest (s .args .table .now) (s .args .configuration .now) (s .args .starts .now) (s .args .ends .now) (s .args .at) (s .args .end) (s .args .room) (l .loop .i) (l .loop .left) (l .loop .inv .1) (s .pre), c .loop-test .taken)
 
 returns : tie.Need-returns Inv-loop μ-loop
 returns c =
     let x = c .before in
     let l = x .before .before in
     let s = l .before in
-    measured-over (s .args .table .now) (s .args .configuration .now) (s .args .starts .now) (s .args .ends .now) (s .args .at) (s .args .end) (s .args .room) (l .loop .i) (l .loop .left) (l .loop .inv .1) (x .before .loop-test .taken) (x .item-size .result) (x .item-size .ensures) (c .if1 .taken)
+    measured-over (s .args .table .now) (s .args .configuration .now) (s .args .starts .now) (s .args .ends .now) (s .args .at) (s .args .end) (s .args .room) (l .loop .i) (l .loop .left) (l .loop .inv .1) (x .item-size .result) (x .item-size .ensures) (c .if1 .taken)
 
 loop-less : tie.Need-loop-less Inv-loop μ-loop
 loop-less c =
     let x = c .before in
     let l = x .before .before in
     let s = l .before in
-    omega (arith, x .before .loop-test .taken, measuring-forward (s .args .table .now) (s .args .configuration .now) (s .args .starts .now) (s .args .ends .now) (s .args .at) (s .args .end) (s .args .room) (l .loop .i) (l .loop .left) (l .loop .inv .1) (x .before .loop-test .taken) (x .item-size .result) (x .item-size .ensures) (s .pre))
+    omega (arith, x .before .loop-test .taken, measuring-forward (s .args .table .now) (s .args .configuration .now) (s .args .starts .now) (s .args .ends .now) (s .args .at) (s .args .end) (s .args .room) (l .loop .i) (l .loop .left) (l .loop .inv .1) (x .item-size .result) (x .item-size .ensures) (s .pre))
 
 loop-again : tie.Need-loop-again Inv-loop μ-loop
 loop-again c =
     let x = c .before in
     let l = x .before .before in
     let s = l .before in
-    (omega (arith, l .loop .inv .0), measuring-on (s .args .table .now) (s .args .configuration .now) (s .args .starts .now) (s .args .ends .now) (s .args .at) (s .args .end) (s .args .room) (l .loop .i) (l .loop .left) (l .loop .inv .1) (x .before .loop-test .taken) (x .item-size .result) (x .item-size .ensures) (c .if1 .left))
+    (omega (arith, l .loop .inv .0), measuring-on (s .args .table .now) (s .args .configuration .now) (s .args .starts .now) (s .args .ends .now) (s .args .at) (s .args .end) (s .args .room) (l .loop .i) (l .loop .left) (l .loop .inv .1) (x .item-size .result) (x .item-size .ensures) (c .if1 .left))
 
 sub-t13 : tie.Need-sub-t13 Inv-loop μ-loop
 sub-t13 c = omega arith

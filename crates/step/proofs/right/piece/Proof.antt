@@ -11,7 +11,7 @@ use mir.Val.{SFits, toZ, ofZ}
 use mir.ValLaws.{toZ-ofZ}
 use Rattle.term.proofs.SignedLaw.{same-bits}
 use Rattle.step.proofs.MatchingLaw.{word}
-use Rattle.step.proofs.RightLaw.{node-within, variable-fits, variable-is, node-is}
+use Rattle.step.proofs.RightLaw.{piece-within, variable-fits, variable-is, node-is}
 use Rattle.step.proofs.right.piece.Statement.{statement}
 use Rattle.step.proofs.right.piece.Tie as tie
 
@@ -36,16 +36,16 @@ module _ (c : tie.After-word2) where
       toZ-ofZ w64 d f ∙ c .word2 .ensures
 
   low : T (nonNeg (word (start .args .table .now) (start .args .at + 1))) × (v < 16)
-  low = variable-fits (start .args .table .now) (start .args .starts .now) (start .args .ends .now) (start .args .at) three v (ap natAbs datum) (start .pre .item)
+  low = variable-fits (start .args .table .now) (start .args .starts .now) (start .args .ends .now) (start .args .at) three v (ap natAbs datum) (start .pre)
 
 word-requires : tie.Need-word-requires
-word-requires c κs = omega (arith, node-within (c .args .table .now) (c .args .starts .now) (c .args .ends .now) (c .args .at) (c .pre .item))
+word-requires c κs = omega (arith, piece-within (c .args .table .now) (c .args .starts .now) (c .args .ends .now) (c .args .at) (c .pre))
 
 add-word : tie.Need-add-word
 add-word c = search needs
 
 word-requires-2 : tie.Need-word-requires-2
-word-requires-2 c κs = let s = c .before .before in omega (arith, node-within (s .args .table .now) (s .args .starts .now) (s .args .ends .now) (s .args .at) (s .pre .item))
+word-requires-2 c κs = let s = c .before .before in omega (arith, piece-within (s .args .table .now) (s .args .starts .now) (s .args .ends .now) (s .args .at) (s .pre))
 
 cast-v : tie.Need-cast-v
 cast-v c = (subst⁻¹ (λ (y : ℤ). T (nonNeg y)) (datum c) (low c .0), record { fits = omega (arith, low c .1) })

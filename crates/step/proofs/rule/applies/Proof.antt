@@ -3,8 +3,8 @@ use mathlib.Core.Bool.{true≢false}
 use Prim.Native.Nat.{ℕ}
 use native.Mathlib.Omega.{arith}
 use borrow.Author.Needs.{needs}
-use Rattle.step.proofs.is_stuck.Statement.{statement}
-use Rattle.step.proofs.is_stuck.Tie as tie
+use Rattle.step.proofs.rule.applies.Statement.{statement}
+use Rattle.step.proofs.rule.applies.Tie as tie
 
 enum-told : tie.Need-enum-told
 enum-told c = search needs
@@ -24,5 +24,5 @@ returns-2 c = record { yes = λ e. absurd (true≢false (sym e)); no = λ e s. l
 returns-3 : tie.Need-returns-3
 returns-3 c = record { yes = λ e. absurd (true≢false (sym e)); no = λ e s. let z : _≡_ {A = ℕ} 0 1 = cc (c .enum-told3 .given .1) in omega arith }
 
-pub is-stuck-spec : {M : Type 1} → statement M
-is-stuck-spec = tie.close (tie.spec enum-told enum-told-2 enum-told-3 returns returns-2 returns-3)
+pub applies-spec : {M : Type 1} → statement M
+applies-spec = tie.close (tie.spec enum-told enum-told-2 enum-told-3 returns returns-2 returns-3)

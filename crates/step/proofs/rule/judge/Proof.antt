@@ -1,0 +1,83 @@
+-- `judge` meets its contract: the left's answer, and where it matches, the conditions'.
+use mathlib.Core.Path.{_≡_, sym, ap}
+use mathlib.Core.List.{List}
+use Prim.Native.Nat.{ℕ}
+use borrow.Author.Needs.{needs}
+use Rattle.step.specs.declared.passed.Passed.{Passed}
+use Rattle.step.specs.declared.passed.Passed.the-variants.{All}
+use Rattle.step.specs.declared.rule.Verdict.{Verdict}
+use Rattle.step.specs.Apply.{SomeMatched, HoldIs, verdictHeld, JudgeIs}
+use Rattle.step.proofs.WaysLaw.{way-misfit, some-matched, way-held}
+use Rattle.step.proofs.rule.judge.Statement.{statement}
+use Rattle.step.proofs.rule.judge.Tie as tie
+
+-- behind the left's walk: the arrays
+module _ (m : tie.After-match-rule) where
+  abbrev start : tie.Start
+  start = m .before .before .before
+
+  abbrev starts : List ℕ
+  starts = m .match-rule .last .1 .1 .1 .1 .0
+
+  abbrev ends : List ℕ
+  ends = m .match-rule .last .1 .1 .1 .1 .1 .0
+
+  matched : m .match-rule .result ≡ All → SomeMatched (start .args .table .now) (start .args .configuration .now) (start .args .rule) starts ends
+  matched e =
+      some-matched (start .args .table .now) (start .args .configuration .now) (start .args .rule) starts ends (m .match-rule .result) (m .match-rule .ensures) e (start .pre .2) (start .pre .1)
+
+  by-conditions : m .match-rule .result ≡ All → (q : Passed) → HoldIs (start .args .table .now) (start .args .configuration .now) (start .args .rule) starts ends q → (r : Verdict) → r ≡ verdictHeld q → JudgeIs (start .args .table .now) (start .args .configuration .now) (start .args .rule) starts ends r
+  by-conditions e =
+      way-held (start .args .table .now) (start .args .configuration .now) (start .args .rule) starts ends (m .match-rule .result) (m .match-rule .ensures) e
+
+match-rule-requires : tie.Need-match-rule-requires
+match-rule-requires c κs = search needs
+
+enum-known-place : tie.Need-enum-known-place
+enum-known-place c = search needs
+
+enum-told : tie.Need-enum-told
+enum-told c = search needs
+
+hold-conditions-requires : tie.Need-hold-conditions-requires
+hold-conditions-requires c κs = let t = c .before .before in let m = t .before .before in (start m .pre .0, matched m (t .enum-told .given .1))
+
+enum-known-number : tie.Need-enum-known-number
+enum-known-number c = search needs
+
+enum-told-2 : tie.Need-enum-told-2
+enum-told-2 c = search needs
+
+returns : tie.Need-returns
+returns c =
+    let p = c .before in
+    let m = p .before .before in
+    let s = start m in
+    way-misfit (s .args .table .now) (s .args .configuration .now) (s .args .rule) (starts m) (ends m) (m .match-rule .result) (m .match-rule .ensures) (p .place .given .0 .0) (p .place .given .1)
+
+returns-2 : tie.Need-returns-2
+returns-2 c =
+    let k = c .before in
+    let h = k .before .before in
+    let t = h .before .before .before in
+    by-conditions (t .before .before) (t .enum-told .given .1) (h .hold-conditions .result) (h .hold-conditions .ensures) _ (sym (ap verdictHeld (k .number .given .1)))
+
+returns-3 : tie.Need-returns-3
+returns-3 c =
+    let h = c .before .before in
+    let t = h .before .before .before in
+    by-conditions (t .before .before) (t .enum-told .given .1) (h .hold-conditions .result) (h .hold-conditions .ensures) _ (sym (ap verdictHeld (c .enum-told2 .given .1)))
+
+pub judge-spec : {M : Type 1} → statement M
+judge-spec =
+    tie.close
+    (tie.spec
+    match-rule-requires
+    enum-known-place
+    enum-told
+    hold-conditions-requires
+    enum-known-number
+    enum-told-2
+    returns
+    returns-2
+    returns-3)

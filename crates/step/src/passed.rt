@@ -1,0 +1,7 @@
+// How far things that come one after the other agree.
+pub enum Passed {
+    // all of them
+    All,
+    // those before the one of this number, from 0, which does not
+    Until(usize),
+}
