@@ -6,7 +6,8 @@ pub mod InterpretLaw
 pub mod RootLaw
 pub mod WordsLaw
 pub mod CopyLaw
-pub mod ExpressionLaw
-pub mod MeantLaw
 pub mod ArityLaw
+pub mod ExpressionLaw
+pub mod GivenLaw
+pub mod MeantLaw
 pub mod ConditionLaw

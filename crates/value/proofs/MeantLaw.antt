@@ -7,7 +7,7 @@ use lib.Dec.{T, ltb, leb·suc-suc}
 use lib.IntN.{ℤ, pos}
 use lib.ListN.{length, take, drop, getD, length-append}
 use borrow.Author.Tests.{lt-ltb, le-ltb}
-use Rattle.minuska.specs.Term.{Forest, nil, node, Term, single, leaf, termCount, Role, aVariable, aCall, plain, role, isGround}
+use Rattle.minuska.specs.Term.{Label, Forest, nil, node, Term, single, leaf, termCount, Role, aVariable, aCall, plain, role, isGround}
 use Rattle.minuska.specs.Word.{tagWord, datumWord, ok, encode}
 use Rattle.minuska.specs.Function.{argument, interpret}
 use Rattle.minuska.specs.Satisfaction.{Valuation}
@@ -15,18 +15,17 @@ use Rattle.minuska.specs.Bridge.Place.{part, Stands}
 use Rattle.minuska.proofs.Tests.{and-left, and-right}
 use Rattle.minuska.proofs.ValueLaw.{value-iff-evaluates}
 use Rattle.minuska.proofs.KeepLaw.{fine-apply}
-use Rattle.value.specs.Builtin.{scalarOf, labelOf, applied}
-use Rattle.value.specs.Root.{Head, tagOf, datumOf, computedOf}
+use Rattle.value.specs.Builtin.{labelAt, rootOf, applied}
+use Rattle.value.specs.Root.{Head, given}
 use Rattle.value.specs.Value.{valueWords, Within, IsValue}
-use Rattle.value.specs.Evaluate.{HasValue, HaveValues, Where, Meant, EvaluateContract, RootMeant, FirstMeant, firstOf, restOf}
-use Rattle.value.specs.declared.builtin.Scalar.{Scalar}
+use Rattle.value.specs.Evaluate.{HasValue, HaveValues, Where, Meant, EvaluateContract, FirstMeant, firstOf, firstTerm, restOf}
 use Rattle.value.specs.declared.Value.{Value}
 use Rattle.value.specs.declared.Value.the-variants.{Table, Configuration, Computed}
 use Rattle.value.specs.declared.Evaluated.{Evaluated}
-use Rattle.value.specs.declared.Root.{Root}
-use Rattle.value.proofs.InterpretLaw.{interpret-is, applied-is}
+use Rattle.value.specs.declared.builtin.Root.{Root}
+use Rattle.value.proofs.GivenLaw.{given-is, given-root}
 use Rattle.value.proofs.ExpressionLaw.{encode-first, VariableHere, CallHere, GroundHere, MoreHere, is-more, no-more}
-use Rattle.value.proofs.RootLaw.{own-head}
+use Rattle.value.proofs.RootLaw.{label-is}
 
 -- words that stand up to a place are the part up to there
 part-of : (ws : List ℤ) (from to : ℕ) (xs : List ℤ) → Stands ws from xs → to ≡ from + length xs → part ws from to ≡ xs
@@ -41,9 +40,14 @@ next-argument : (xs : Forest) (i : ℕ) → argument (suc i) xs ≡ argument i (
 next-argument nil i = refl
 next-argument (node l cs ss) i = refl
 
--- what a function gives at the three roots is what it gives at the list
-pub roots-are : (c : ℕ) (xs : Forest) (a : Scalar) → a ≡ scalarOf (argument 0 xs) → (b : Scalar) → b ≡ scalarOf (argument 0 (restOf xs)) → (d : Scalar) → d ≡ scalarOf (argument 0 (restOf (restOf xs))) → applied c a b d ≡ applied c (scalarOf (argument 0 xs)) (scalarOf (argument 1 xs)) (scalarOf (argument 2 xs))
-roots-are c xs a p b q d r = rw (p, q, r) (rw (next-argument xs 0, next-argument xs 1, next-argument (restOf xs) 0) refl)
+first-label : (xs : Forest) → firstTerm xs .label ≡ argument 0 xs
+first-label nil = refl
+first-label (node l cs ss) = refl
+
+-- three roots are those of the list's first three terms
+pub roots-are : (xs : Forest) (a b d : Label) → a ≡ firstTerm xs .label → b ≡ firstTerm (restOf xs) .label → d ≡ firstTerm (restOf (restOf xs)) .label → (c : ℕ) → applied c a b d ≡ applied c (argument 0 xs) (argument 1 xs) (argument 2 xs)
+roots-are xs a b d p q r c =
+    rw (p, q, r) (rw (next-argument xs 0, next-argument xs 1, next-argument (restOf xs) 0, ← first-label xs, ← first-label (restOf xs), ← first-label (restOf (restOf xs))) refl)
 
 first-long : (es : Forest) → length (encode es) ≡ length (encode (firstOf es)) + length (encode (restOf es))
 first-long nil = refl
@@ -78,13 +82,6 @@ module _ (table config : List ℤ) where
       let w = s .within in
       record { good = o; ground = g; words = part-of config from to (encode (single t)) s e; within = (omega arith, omega arith) }
 
-  computed-value : (c : ℕ) (xs : Forest) → IsValue table config (computedOf (applied c (scalarOf (argument 0 xs)) (scalarOf (argument 1 xs)) (scalarOf (argument 2 xs)))) (interpret c xs)
-  unfolding valueWords Within computedOf
-  computed-value c xs =
-      let t = interpret c xs in
-      let f = fine-apply c xs in
-      record { good = and-left (ok (single t)) (isGround (single t)) f; ground = and-right (ok (single t)) (isGround (single t)) f; words = sym (ap (λ (y : Term). encode (single y)) (interpret-is xs c)); within = tt }
-
   module _ (starts ends : List ℕ) (at : ℕ) (ρ : Valuation) where
     -- where the value is, from the expression's role
     placed : (e t : Term) (r : Evaluated) (y : Role) → role (e .label) ≡ y → Where table config starts ends at y t r → Where table config starts ends at (role (e .label)) t r
@@ -105,46 +102,29 @@ module _ (table config : List ℤ) where
           next = q;
         }
 
-    -- ---- a call: the two words of what its function gives, and the value that they are
-    pub call-root : (e t : Term) (k : CallHere table config starts ends at ρ e t) (c : ℕ) → c ≡ k .code → (s : Scalar) → s ≡ applied c (scalarOf (argument 0 (k .terms))) (scalarOf (argument 1 (k .terms))) (scalarOf (argument 2 (k .terms))) → Head (tagOf s) (datumOf s) (t .label) (termCount (t .children))
-    unfolding tagOf datumOf
-    call-root e t k c q s p =
-        let x = interpret (k .code) (k .terms) in
-        let f = fine-apply (k .code) (k .terms) in
-        let i : x ≡ leaf (labelOf s) =
-        interpret-is (k .terms) (k .code) ∙ ap (λ (y : Scalar). leaf (labelOf y)) (sym (p ∙ ap (λ (n : ℕ). applied n (scalarOf (argument 0 (k .terms))) (scalarOf (argument 1 (k .terms))) (scalarOf (argument 2 (k .terms)))) q)) in
-        let h = own-head x (and-left (ok (single x)) (isGround (single x)) f) (and-right (ok (single x)) (isGround (single x)) f) in
-        subst (λ (y : Term). Head (tagWord (labelOf s) 0) (datumWord (labelOf s)) (y .label) (termCount (y .children))) (k .is)
-        (subst (λ (y : Term). Head (tagWord (y .label) (termCount (y .children))) (datumWord (y .label)) (x .label) (termCount (x .children))) i h)
-
-    pub call-meant : (e t : Term) (k : CallHere table config starts ends at ρ e t) (r : Root) → RootMeant table config starts ends at e t r → Meant table config starts ends at e t (record { value = Computed (r .tag) (r .datum); next = r .next })
-    unfolding computedOf
-    call-meant e t k r m =
-        let s = applied (k .code) (scalarOf (argument 0 (k .terms))) (scalarOf (argument 1 (k .terms))) (scalarOf (argument 2 (k .terms))) in
-        let i : leaf (labelOf s) ≡ t = sym (interpret-is (k .terms) (k .code)) ∙ k .is in
-        let h : Head (r .tag) (r .datum) (labelOf s) 0 = subst⁻¹ (λ (y : Term). Head (r .tag) (r .datum) (y .label) (termCount (y .children))) i (m .head) in
-        let u : Computed (r .tag) (r .datum) ≡ computedOf s = ap₂ Computed (h .tag) (h .datum) in
+    -- ---- a call: its value is what its function gives
+    pub call-meant : (e t : Term) (k : CallHere table config starts ends at ρ e t) (r : Evaluated) → r .value ≡ given (rootOf (applied (k .code) (argument 0 (k .terms)) (argument 1 (k .terms)) (argument 2 (k .terms)))) → r .next ≡ at + length (encode (single e)) → Meant table config starts ends at e t r
+    call-meant e t k r q n =
         record {
-          is = subst (IsValue table config (Computed (r .tag) (r .datum))) (k .is) (subst⁻¹ (λ (y : Value). IsValue table config y (interpret (k .code) (k .terms))) u (computed-value (k .code) (k .terms)));
-          place = placed e t (record { value = Computed (r .tag) (r .datum); next = r .next }) (aCall (k .code)) (k .role-is)
-              (u ∙ ap computedOf (sym (applied-is (k .terms) (k .code)) ∙ ap (λ (y : Term). scalarOf (y .label)) (k .is)));
-          next = m .next;
+          is = subst (IsValue table config (r .value)) (k .is) (subst⁻¹ (λ (v : Value). IsValue table config v (interpret (k .code) (k .terms))) q (given-is table config (k .code) (k .terms)));
+          place = placed e t r (aCall (k .code)) (k .role-is) (q ∙ ap (λ (l : Label). given (rootOf l)) (given-root table config (k .code) (k .terms) ∙ ap (λ (y : Term). y .label) (k .is)));
+          next = n;
         }
 
     -- ---- the first of a list
-    pub none-first : (es xs : Forest) → (es ≡ nil) × (xs ≡ nil) → FirstMeant table config starts ends at es xs (record { tag = pos 0; next = at; datum = pos 0 })
-    none-first es xs q = rw (q .0, q .1) (record { count = 0; head = record { good = tt; ground = tt; tag = refl; datum = refl }; next = omega arith })
+    pub none-first : (es xs : Forest) → (es ≡ nil) × (xs ≡ nil) → FirstMeant table config starts ends at es xs (record { value = Computed (pos 0) (pos 0); next = at })
+    unfolding valueWords Within
+    none-first es xs q = rw (q .0, q .1) (record { is = record { good = tt; ground = tt; words = refl; within = tt }; next = omega arith })
 
-    pub some-first : (es xs : Forest) (m : MoreHere table config starts ends at ρ es xs) (r : Root) → RootMeant table config starts ends at (m .expression) (m .term) r → FirstMeant table config starts ends at es xs r
+    pub some-first : (es xs : Forest) (m : MoreHere table config starts ends at ρ es xs) (r : Evaluated) → Meant table config starts ends at (m .expression) (m .term) r → FirstMeant table config starts ends at es xs r
     some-first es xs m r k =
         record {
-          count = termCount (m .term .children);
-          head = subst (λ (f : Forest). Head (r .tag) (r .datum) (argument 0 f) (termCount (m .term .children))) (m .are) (k .head);
+          is = subst (λ (f : Forest). IsValue table config (r .value) (firstTerm f)) (m .are) (k .is);
           next = k .next ∙ ap (λ (f : Forest). at + length (encode f)) (sym (m .first-is));
         }
 
     -- the rest stands behind it
-    pub rest-behind : (es xs : Forest) → HaveValues table config starts ends at ρ es xs → (r : Root) → FirstMeant table config starts ends at es xs r → HaveValues table config starts ends (r .next) ρ (restOf es) (restOf xs)
+    pub rest-behind : (es xs : Forest) → HaveValues table config starts ends at ρ es xs → (r : Evaluated) → FirstMeant table config starts ends at es xs r → HaveValues table config starts ends (r .next) ρ (restOf es) (restOf xs)
     rest-behind nil xs w r f =
         let n = no-more table config starts ends at ρ nil xs w refl in
         let e : r .next ≡ at = (let q = f .next in omega arith) in

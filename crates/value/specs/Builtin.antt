@@ -1,29 +1,34 @@
 -- "A call's function code is one of these fifteen": `minuska`'s table, on the roots of the arguments.
-use Prim.Native.Nat.{ℕ}
-use Rattle.minuska.specs.Term.{Label, error, truth, whole, variable, call, symbol, Forest, nil, node}
+use mathlib.Core.Bool.{cond}
+use Prim.Native.Nat.{ℕ, zero, suc, _-_, _^_}
+use lib.Dec.{eqb, leb}
+use lib.IntN.{ℤ, pos, negsuc}
+use Rattle.minuska.specs.Term.{Label, error, truth, whole, symbol, Forest, nil, node}
+use Rattle.minuska.specs.Word.{tagWord, datumWord}
 use Rattle.minuska.specs.Function.{interpret}
-use Rattle.value.specs.declared.builtin.Scalar.{Scalar}
-use Rattle.value.specs.declared.builtin.Scalar.the-variants.{Error, Truth, Whole, Symbol}
+use Rattle.value.specs.declared.builtin.Root.{Root}
 
--- a label as a function sees it, and the label that a scalar is
-abbrev pub scalarOf : Label → Scalar
-scalarOf error = Error
-scalarOf (truth b) = Truth b
-scalarOf (whole z) = Whole z
-scalarOf (variable v) = Error
-scalarOf (call c) = Error
-scalarOf (symbol s) = Symbol s
+-- a word of 64 bits, read without its sign
+abbrev pub unsigned : ℤ → ℕ
+unsigned (pos n) = n
+unsigned (negsuc n) = 2 ^ 64 - suc n
 
-abbrev pub labelOf : Scalar → Label
-labelOf Error = error
-labelOf (Truth b) = truth b
-labelOf (Whole z) = whole z
-labelOf (Symbol s) = symbol s
+-- the root that two words say: a ground node's label (`proofs/RootLaw`), whatever its child count; of words that are no ground node's, a label all the same
+unfoldable pub labelAt : ℤ → ℤ → Label
+labelAt (pos zero) d = error
+labelAt (pos (suc zero)) d = truth (eqb (unsigned d) 1)
+labelAt (pos (suc (suc zero))) d = whole d
+labelAt (pos (suc (suc (suc n)))) d = cond (leb 5 n) (symbol (unsigned d)) error
+labelAt (negsuc n) d = error
+
+-- the two words of a leaf with this label
+unfoldable pub rootOf : Label → Root
+rootOf l = record { tag = tagWord l 0; datum = datumWord l }
 
 -- three arguments that are leaves
-abbrev pub leaves : Scalar → Scalar → Scalar → Forest
-leaves a b c = node (labelOf a) nil (node (labelOf b) nil (node (labelOf c) nil nil))
+abbrev pub leaves : Label → Label → Label → Forest
+leaves a b c = node a nil (node b nil (node c nil nil))
 
 -- the function of a code at arguments with these roots (`proofs/InterpretLaw`: its value depends on nothing else)
-unfoldable pub applied : ℕ → Scalar → Scalar → Scalar → Scalar
-applied code a b c = scalarOf (interpret code (leaves a b c) .label)
+unfoldable pub applied : ℕ → Label → Label → Label → Label
+applied code a b c = interpret code (leaves a b c) .label

@@ -10,25 +10,27 @@ use Prim.Native.Nat.{ℕ, _+_}
 use lib.Dec.{T, ltb}
 use lib.IntN.{ℤ, pos}
 use lib.ListN.{length, getD}
-use Rattle.minuska.specs.Term.{Forest, nil, node, Term, single, termCount, Role, aVariable, aCall, plain, role}
+use Rattle.minuska.specs.Term.{error, Forest, nil, node, Term, leaf, single, termCount, Role, aVariable, aCall, plain, role}
 use Rattle.minuska.specs.Word.{ok, encode}
-use Rattle.minuska.specs.Function.{argument}
 use Rattle.minuska.specs.Rule.{isExpression}
 use Rattle.minuska.specs.Satisfaction.{Valuation, SideCondition, Evaluates, Holds}
 use Rattle.minuska.specs.Computed.Value.{value, values, holds}
 use Rattle.minuska.specs.Bridge.Place.{Stands, Binds}
-use Rattle.value.specs.Builtin.{scalarOf}
-use Rattle.value.specs.Root.{Head, computedOf}
+use Rattle.value.specs.Builtin.{rootOf}
+use Rattle.value.specs.Root.{given}
 use Rattle.value.specs.Value.{valueWords, IsValue}
 use Rattle.value.specs.declared.Value.the-variants.{Table, Configuration}
 use Rattle.value.specs.declared.Evaluated.{Evaluated}
-use Rattle.value.specs.declared.Root.{Root}
 use Rattle.value.specs.declared.Tested.{Tested}
 
--- the first term of a list, and the rest; nothing of an empty one
+-- the first term of a list, and the rest; of an empty one nothing, or, as a term, error
 abbrev pub firstOf : Forest → Forest
 firstOf nil = nil
 firstOf (node l cs ss) = node l cs nil
+
+abbrev pub firstTerm : Forest → Term
+firstTerm nil = leaf error
+firstTerm (node l cs ss) = record { label = l; children = cs }
 
 abbrev pub restOf : Forest → Forest
 restOf nil = nil
@@ -53,10 +55,10 @@ module _ (table config : List ℤ) (starts ends : List ℕ) (at : ℕ) where
     pub term : Term
     pub has : HasValue valuation expression term
 
-  -- where the value is: a variable's part of the configuration, a literal's part of the table; a call's is computed
+  -- where the value is: a variable's part of the configuration, a literal's part of the table; a call's as its function gives it
   abbrev pub Where : Role → Term → Evaluated → Type 0
   Where (aVariable v) t r = r .value ≡ Configuration (getD starts v 0) (getD ends v 0)
-  Where (aCall c) t r = r .value ≡ computedOf (scalarOf (t .label))
+  Where (aCall c) t r = r .value ≡ given (rootOf (t .label))
   Where plain t r = r .value ≡ Table at (r .next)
 
   pub record Meant (e t : Term) (r : Evaluated) : Type 0 where
@@ -68,41 +70,39 @@ module _ (table config : List ℤ) (starts ends : List ℕ) (at : ℕ) where
     pub meant : (ρ : Valuation) (e t : Term) → HasValue ρ e t → Meant e t r
     pub satisfied : (ρ : Valuation) (e t : Term) → Placed ρ (single e) → Evaluates ρ (single e) (single t) → valueWords table config (r .value) ≡ encode (single t)
 
-  -- THE ROOT OF ITS VALUE: the two words of its first node. A call's value is a leaf.
-  pub record RootMeant (e t : Term) (r : Root) : Type 0 where
-    pub head : Head (r .tag) (r .datum) (t .label) (termCount (t .children))
-    pub next : r .next ≡ at + length (encode (single e))
-
-  pub record RootContract (r : Root) : Type 0 where
-    pub meant : (ρ : Valuation) (e t : Term) → HasValue ρ e t → RootMeant e t r
-
+  -- a call, which a function's value stands for; and what is none: of any configuration, since its value is read from the arrays alone
   pub record CallIn : Type 0 where
     pub expression : ExpressionIn
     pub tag : getD table at (pos 0) ≡ pos 4
 
-  pub record LeafIn : Type 0 where
-    pub expression : ExpressionIn
-    pub tag : getD table at (pos 0) ≡ pos 4 → ⊥
-
-  -- AN ARGUMENT LIST: the root of its first value, error where there is none. The rest of the list stands behind it.
+  -- AN ARGUMENT LIST: its first value, error where there is none. The rest of the list stands behind it.
   pub record HaveValues (ρ : Valuation) (es xs : Forest) : Type 0 where
     pub placed : Placed ρ es
     pub are : values ρ es ≡ some xs
 
-  pub record ArgumentIn (wanted : Bool) : Type 0 where
+  pub record ArgumentsIn (wanted : Bool) : Type 0 where
     pub valuation : Valuation
     pub expressions : Forest
     pub terms : Forest
     pub have : HaveValues valuation expressions terms
     pub some : wanted ≡ ltb 0 (termCount expressions)
 
-  pub record FirstMeant (es xs : Forest) (r : Root) : Type 0 where
-    pub count : ℕ
-    pub head : Head (r .tag) (r .datum) (argument 0 xs) count
+  pub record FirstMeant (es xs : Forest) (r : Evaluated) : Type 0 where
+    pub is : IsValue table config (r .value) (firstTerm xs)
     pub next : r .next ≡ at + length (encode (firstOf es))
 
-  pub record ArgumentContract (wanted : Bool) (r : Root) : Type 0 where
+  pub record ArgumentsContract (wanted : Bool) (r : Evaluated) : Type 0 where
     pub meant : (ρ : Valuation) (es xs : Forest) → HaveValues ρ es xs → wanted ≡ ltb 0 (termCount es) → FirstMeant es xs r
+
+-- A VARIABLE OR A LITERAL: its value is found in the table and the arrays, whatever the configuration holds there.
+module _ (table : List ℤ) (starts ends : List ℕ) (at : ℕ) where
+  pub record LeafIn : Type 0 where
+    pub config : List ℤ
+    pub expression : ExpressionIn table config starts ends at
+    pub tag : getD table at (pos 0) ≡ pos 4 → ⊥
+
+  pub record LeafContract (r : Evaluated) : Type 0 where
+    pub over : (config : List ℤ) → EvaluateContract table config starts ends at r
 
 -- A SIDE CONDITION: two expressions one behind the other, both with a value.
 module _ (table config : List ℤ) (starts ends : List ℕ) (at : ℕ) where

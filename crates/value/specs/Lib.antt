@@ -1,5 +1,5 @@
 pub mod Builtin
-pub mod Root
 pub mod Value
+pub mod Root
 pub mod Evaluate
 pub mod Copy

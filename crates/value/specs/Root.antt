@@ -1,37 +1,36 @@
--- The root of a ground term, from its first two words, and back.
+-- The root of a ground term, from its first two words.
 use mathlib.Core.Path.{_≡_}
-use Prim.Native.Nat.{ℕ}
+use Prim.Native.Nat.{ℕ, _+_}
 use lib.Dec.{T}
-use lib.IntN.{ℤ}
-use Rattle.minuska.specs.Term.{Label, role, groundAt}
+use lib.IntN.{ℤ, pos}
+use lib.ListN.{getD}
+use mathlib.Core.List.{List}
+use Rattle.minuska.specs.Term.{Label, Term, termCount, role, groundAt}
 use Rattle.minuska.specs.Word.{tagWord, datumWord, okHead}
-use Rattle.value.specs.Builtin.{scalarOf, labelOf}
-use Rattle.value.specs.declared.builtin.Scalar.{Scalar}
+use Rattle.value.specs.Value.{IsValue}
+use Rattle.value.specs.declared.builtin.Root.{Root}
 use Rattle.value.specs.declared.Value.{Value}
 use Rattle.value.specs.declared.Value.the-variants.{Computed}
 
 -- two words are those of a ground node with this label and so many children
-pub record Head (t d : ℤ) (l : Label) (k : ℕ) : Type 0 where
+pub record Head (r : Root) (l : Label) (k : ℕ) : Type 0 where
   pub good : T (okHead l k)
   pub ground : T (groundAt (role l))
-  pub tag : t ≡ tagWord l k
-  pub datum : d ≡ datumWord l
+  pub tag : r .tag ≡ tagWord l k
+  pub datum : r .datum ≡ datumWord l
 
--- of some ground node; whatever node's they are, r is its root
-pub record HeadIn (t d : ℤ) : Type 0 where
-  pub label : Label
-  pub count : ℕ
-  pub head : Head t d label count
+-- the two words at a place
+unfoldable pub rootAt : List ℤ → ℕ → Root
+rootAt ws at = record { tag = getD ws at (pos 0); datum = getD ws (at + 1) (pos 0) }
 
-pub record HeadIs (t d : ℤ) (r : Scalar) : Type 0 where
-  pub is : (l : Label) (k : ℕ) → Head t d l k → r ≡ scalarOf l
+-- a value is some term; whatever term it is, r is its root
+pub record ValueIn (table config : List ℤ) (v : Value) : Type 0 where
+  pub term : Term
+  pub is : IsValue table config v term
 
--- a scalar's two words
-unfoldable pub tagOf : Scalar → ℤ
-tagOf s = tagWord (labelOf s) 0
+pub record RootIs (table config : List ℤ) (v : Value) (r : Root) : Type 0 where
+  pub is : (t : Term) → IsValue table config v t → Head r (t .label) (termCount (t .children))
 
-unfoldable pub datumOf : Scalar → ℤ
-datumOf s = datumWord (labelOf s)
-
-unfoldable pub computedOf : Scalar → Value
-computedOf s = Computed (tagWord (labelOf s) 0) (datumWord (labelOf s))
+-- WHAT A BUILT-IN FUNCTION GIVES, as a value: one node, computed. (`proofs/GivenLaw`: today each gives a leaf.)
+unfoldable pub given : Root → Value
+given r = Computed (r .tag) (r .datum)

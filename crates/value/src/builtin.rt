@@ -1,110 +1,129 @@
-// The built-in functions, on the roots of their arguments.
+// The built-in functions, on the roots of their arguments: two words each, tag and datum.
 ghost use mathlib.Core.Path.{_≡_};
 ghost use mathlib.Core.Bool.{true};
 ghost use Prim.Native.Nat.{_≤_};
 ghost use lib.Dec.{leb};
 ghost use lib.IntN.{natAbs, _+ℤ_, _-ℤ_};
+ghost use Rattle.minuska.specs.Term.{error, truth, whole};
 ghost use Rattle.minuska.specs.Function.{inWord, shareRange};
-ghost use Rattle.value.specs.Builtin.{applied};
+ghost use Rattle.value.specs.Builtin.{labelAt, rootOf, applied};
 
-// The root of a term, as far as a function looks at it.
-pub enum Scalar {
-    Error,
-    Truth(bool),
-    Whole(i64),
-    Symbol(u16),
+// The root of a term: the two words of its first node.
+pub struct Root {
+    pub tag: i64,
+    pub datum: i64,
 }
 
 // The value of the function of a code; a code that names none, and an argument of another kind, give error.
-pub fn apply(code: usize, a: Scalar, b: Scalar, c: Scalar) -> Scalar
-    ensures { λ r. ⌜ r ≡ applied code a b c ⌝ }
+pub fn apply(code: usize, a: i64, x: i64, b: i64, y: i64, c: i64, z: i64) -> Root
+    ensures { λ r. ⌜ r ≡ rootOf (applied code (labelAt a x) (labelAt b y) (labelAt c z)) ⌝ }
 {
     match code {
-        0 => Scalar::Truth(true),
-        1 => Scalar::Truth(false),
-        2 => neg(a),
-        3..=5 => logic(code, a, b),
-        6 => is_truth(a),
-        7 => is_whole(a),
-        8..=9 => arithmetic(code, a, b),
-        10..=12 => comparison(code, a, b),
-        13 => same_symbol(a, b),
-        14 => share(a, b, c),
-        _ => Scalar::Error,
+        0 => a_truth(true),
+        1 => a_truth(false),
+        2 => neg(a, x),
+        3..=5 => logic(code, a, x, b, y),
+        6 => a_truth(a == TRUTH),
+        7 => a_truth(a == WHOLE),
+        8..=9 => arithmetic(code, a, x, b, y),
+        10..=12 => comparison(code, a, x, b, y),
+        13 => same_symbol(a, x, b, y),
+        14 => share(a, x, b, y, c, z),
+        _ => an_error(),
     }
 }
 
-pub fn neg(a: Scalar) -> Scalar
-    ensures { λ r. ⌜ r ≡ applied 2 a Scalar.Error Scalar.Error ⌝ }
+// The tags of truth values and of whole numbers, and the least of a symbol.
+const TRUTH: i64 = 1;
+
+const WHOLE: i64 = 2;
+
+const SYMBOL: i64 = 8;
+
+// The nodes that functions give: error, a truth value, a whole number.
+pub fn an_error() -> Root
+    ensures { λ r. ⌜ r ≡ rootOf error ⌝ }
 {
-    let Scalar::Truth(x) = a else {
-        return Scalar::Error;
-    };
-    Scalar::Truth(!x)
+    Root { tag: 0, datum: 0 }
+}
+
+pub fn a_truth(b: bool) -> Root
+    ensures { λ r. ⌜ r ≡ rootOf (truth b) ⌝ }
+{
+    if b {
+        return Root {
+            tag: TRUTH,
+            datum: 1,
+        };
+    }
+    Root {
+        tag: TRUTH,
+        datum: 0,
+    }
+}
+
+pub fn a_whole(z: i64) -> Root
+    ensures { λ r. ⌜ r ≡ rootOf (whole z) ⌝ }
+{
+    Root {
+        tag: WHOLE,
+        datum: z,
+    }
+}
+
+pub fn neg(a: i64, x: i64) -> Root
+    ensures { λ r. ⌜ r ≡ rootOf (applied 2 (labelAt a x) error error) ⌝ }
+{
+    if a == TRUTH {
+        return a_truth(x != 1);
+    }
+    an_error()
 }
 
 // bool.and, bool.or, bool.eq.
-fn logic(code: usize, a: Scalar, b: Scalar) -> Scalar
+fn logic(code: usize, a: i64, x: i64, b: i64, y: i64) -> Root
     requires { ⌜ (3 ≤ code) × (code ≤ 5) ⌝ }
-    ensures { λ r. ⌜ r ≡ applied code a b Scalar.Error ⌝ }
+    ensures { λ r. ⌜ r ≡ rootOf (applied code (labelAt a x) (labelAt b y) error) ⌝ }
 {
-    let Scalar::Truth(x) = a else {
-        return Scalar::Error;
-    };
-    let Scalar::Truth(y) = b else {
-        return Scalar::Error;
-    };
-    if code == 3 {
-        return Scalar::Truth(x && y);
+    if a != TRUTH {
+        return an_error();
     }
-    if code == 4 {
-        return Scalar::Truth(x || y);
+    if b != TRUTH {
+        return an_error();
     }
-    Scalar::Truth(x == y)
-}
-
-pub fn is_truth(a: Scalar) -> Scalar
-    ensures { λ r. ⌜ r ≡ applied 6 a Scalar.Error Scalar.Error ⌝ }
-{
-    match a {
-        Scalar::Truth(_) => Scalar::Truth(true),
-        _ => Scalar::Truth(false),
+    if code == 5 {
+        return a_truth((x == 1) == (y == 1));
     }
-}
-
-pub fn is_whole(a: Scalar) -> Scalar
-    ensures { λ r. ⌜ r ≡ applied 7 a Scalar.Error Scalar.Error ⌝ }
-{
-    match a {
-        Scalar::Whole(_) => Scalar::Truth(true),
-        _ => Scalar::Truth(false),
+    if (x == 1) == (code == 3) {
+        return a_truth(y == 1);
     }
+    a_truth(x == 1)
 }
 
 // z.plus, z.minus.
-fn arithmetic(code: usize, a: Scalar, b: Scalar) -> Scalar
+fn arithmetic(code: usize, a: i64, x: i64, b: i64, y: i64) -> Root
     requires { ⌜ (8 ≤ code) × (code ≤ 9) ⌝ }
-    ensures { λ r. ⌜ r ≡ applied code a b Scalar.Error ⌝ }
+    ensures { λ r. ⌜ r ≡ rootOf (applied code (labelAt a x) (labelAt b y) error) ⌝ }
 {
-    let Scalar::Whole(x) = a else {
-        return Scalar::Error;
-    };
-    let Scalar::Whole(y) = b else {
-        return Scalar::Error;
-    };
+    if a != WHOLE {
+        return an_error();
+    }
+    if b != WHOLE {
+        return an_error();
+    }
     if code == 8 {
         return plus(x, y);
     }
     minus(x, y)
 }
 
-pub fn plus(a: i64, b: i64) -> Scalar
-    ensures { λ r. ⌜ r ≡ applied 8 (Scalar.Whole a) (Scalar.Whole b) Scalar.Error ⌝ }
+pub fn plus(a: i64, b: i64) -> Root
+    ensures { λ r. ⌜ r ≡ rootOf (applied 8 (whole a) (whole b) error) ⌝ }
 {
     if sum_fits(a, b) {
-        return Scalar::Whole(a + b);
+        return a_whole(a + b);
     }
-    Scalar::Error
+    an_error()
 }
 
 // By the room that b leaves: no sum is computed before it is known to fit.
@@ -117,13 +136,13 @@ pub fn sum_fits(a: i64, b: i64) -> bool
     a <= 9223372036854775807 - b
 }
 
-pub fn minus(a: i64, b: i64) -> Scalar
-    ensures { λ r. ⌜ r ≡ applied 9 (Scalar.Whole a) (Scalar.Whole b) Scalar.Error ⌝ }
+pub fn minus(a: i64, b: i64) -> Root
+    ensures { λ r. ⌜ r ≡ rootOf (applied 9 (whole a) (whole b) error) ⌝ }
 {
     if difference_fits(a, b) {
-        return Scalar::Whole(a - b);
+        return a_whole(a - b);
     }
-    Scalar::Error
+    an_error()
 }
 
 pub fn difference_fits(a: i64, b: i64) -> bool
@@ -136,51 +155,51 @@ pub fn difference_fits(a: i64, b: i64) -> bool
 }
 
 // z.eq, z.le, z.lt.
-fn comparison(code: usize, a: Scalar, b: Scalar) -> Scalar
+fn comparison(code: usize, a: i64, x: i64, b: i64, y: i64) -> Root
     requires { ⌜ (10 ≤ code) × (code ≤ 12) ⌝ }
-    ensures { λ r. ⌜ r ≡ applied code a b Scalar.Error ⌝ }
+    ensures { λ r. ⌜ r ≡ rootOf (applied code (labelAt a x) (labelAt b y) error) ⌝ }
 {
-    let Scalar::Whole(x) = a else {
-        return Scalar::Error;
-    };
-    let Scalar::Whole(y) = b else {
-        return Scalar::Error;
-    };
+    if a != WHOLE {
+        return an_error();
+    }
+    if b != WHOLE {
+        return an_error();
+    }
     if code == 10 {
-        return Scalar::Truth(x == y);
+        return a_truth(x == y);
     }
     if code == 11 {
-        return Scalar::Truth(x <= y);
+        return a_truth(x <= y);
     }
-    Scalar::Truth(x < y)
+    a_truth(x < y)
 }
 
-pub fn same_symbol(a: Scalar, b: Scalar) -> Scalar
-    ensures { λ r. ⌜ r ≡ applied 13 a b Scalar.Error ⌝ }
+pub fn same_symbol(a: i64, x: i64, b: i64, y: i64) -> Root
+    ensures { λ r. ⌜ r ≡ rootOf (applied 13 (labelAt a x) (labelAt b y) error) ⌝ }
 {
-    let Scalar::Symbol(x) = a else {
-        return Scalar::Truth(false);
-    };
-    let Scalar::Symbol(y) = b else {
-        return Scalar::Truth(false);
-    };
-    Scalar::Truth(x == y)
+    if a < SYMBOL {
+        return a_truth(false);
+    }
+    if b < SYMBOL {
+        return a_truth(false);
+    }
+    a_truth(x == y)
 }
 
-pub fn share(a: Scalar, b: Scalar, c: Scalar) -> Scalar
-    ensures { λ r. ⌜ r ≡ applied 14 a b c ⌝ }
+pub fn share(a: i64, x: i64, b: i64, y: i64, c: i64, z: i64) -> Root
+    ensures { λ r. ⌜ r ≡ rootOf (applied 14 (labelAt a x) (labelAt b y) (labelAt c z)) ⌝ }
 {
-    let Scalar::Whole(x) = a else {
-        return Scalar::Error;
-    };
-    let Scalar::Whole(y) = b else {
-        return Scalar::Error;
-    };
-    let Scalar::Whole(z) = c else {
-        return Scalar::Error;
-    };
+    if a != WHOLE {
+        return an_error();
+    }
+    if b != WHOLE {
+        return an_error();
+    }
+    if c != WHOLE {
+        return an_error();
+    }
     if !in_range(x, y, z) {
-        return Scalar::Error;
+        return an_error();
     }
     quotient(x, y, z)
 }
@@ -211,11 +230,11 @@ pub fn small(x: i64) -> bool
 }
 
 // Toward zero; within the ranges the product fits.
-fn quotient(a: i64, b: i64, c: i64) -> Scalar
+fn quotient(a: i64, b: i64, c: i64) -> Root
     requires { ⌜ shareRange a b c ≡ true ⌝ }
-    ensures { λ r. ⌜ r ≡ applied 14 (Scalar.Whole a) (Scalar.Whole b) (Scalar.Whole c) ⌝ }
+    ensures { λ r. ⌜ r ≡ rootOf (applied 14 (whole a) (whole b) (whole c)) ⌝ }
 {
     let product = a * b;
-    let whole = product / c;
-    Scalar::Whole(whole)
+    let share = product / c;
+    a_whole(share)
 }

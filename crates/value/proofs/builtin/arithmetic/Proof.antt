@@ -1,49 +1,55 @@
-use native.Mathlib.Omega.{arith}
+use mathlib.Core.Path.{_≡_, ap, ap₂, _∙_}
 use Prim.Native.Nat.{ℕ}
-use mathlib.Core.Path.{_≡_, ap₂, _∙_}
-use mir.Syntax.{w64}
-use mir.Val.{SFits}
+use native.Mathlib.Omega.{arith}
 use mir.Facts.{toZ-ofZ}
-use borrow.Author.Needs.{needs}
-use Rattle.value.specs.Builtin.{applied}
-use Rattle.value.specs.declared.builtin.Scalar.the-variants.{Error, Whole}
-use Rattle.value.proofs.BuiltinLaw.{no-whole, no-first-whole, no-second-whole}
+use Rattle.minuska.specs.Term.{error, whole}
+use Rattle.value.specs.Builtin.{labelAt, rootOf, applied}
+use Rattle.value.proofs.BuiltinLaw.{is-whole, no-whole, no-first-whole, no-second-whole}
 use Rattle.value.proofs.builtin.arithmetic.Statement.{statement}
 use Rattle.value.proofs.builtin.arithmetic.Tie as tie
 
-enum-known-a : tie.Need-enum-known-a
-enum-known-a c = search needs
+-- both are whole numbers
+first : (c : tie.Else1) → labelAt (c .before .args .a) (c .before .args .x) ≡ whole (c .before .args .x)
+first c = is-whole (c .before .args .a) (c .before .args .x) (c .before .fits .a) (c .if1 .left)
+
+second : (c : tie.Else2) → labelAt (c .before .before .args .b) (c .before .before .args .y) ≡ whole (c .before .before .args .y)
+second c = let s = c .before .before in is-whole (s .args .b) (s .args .y) (s .fits .b) (c .if2 .left)
+
+an-error-requires : tie.Need-an-error-requires
+an-error-requires c κs = tt
 
 returns : tie.Need-returns
-returns c = no-first-whole _ _ _ _ (omega arith) (omega arith) (no-whole (c .before .args .a) (c .match .keys2))
+returns c =
+    let s = c .before .before in
+    c .an-error .ensures ∙ ap rootOf (no-first-whole _ _ _ _ (omega arith) (omega arith) (no-whole (s .args .a) (s .args .x) (c .before .if1 .taken)))
 
-enum-known-b : tie.Need-enum-known-b
-enum-known-b c = search needs
+an-error-requires-2 : tie.Need-an-error-requires-2
+an-error-requires-2 c κs = tt
 
 returns-2 : tie.Need-returns-2
-returns-2 c = no-second-whole _ _ _ _ (omega arith) (omega arith) _ (c .before .before .a .given .1) (no-whole (c .before .before .before .before .args .b) (c .match2 .keys2))
+returns-2 c =
+    let e = c .before .before in
+    let s = e .before in
+    c .an-error2 .ensures ∙ ap rootOf (no-second-whole _ _ _ _ (omega arith) (omega arith) _ (first e) (no-whole (s .args .b) (s .args .y) (c .before .if2 .taken)))
 
 plus-requires : tie.Need-plus-requires
-plus-requires c κs = search needs
+plus-requires c κs = tt
 
 returns-3 : tie.Need-returns-3
 returns-3 c =
-    let fx : SFits w64 (c .before .before .before .before .before .before .a .given .0 .0) = search needs in
-    let fy : SFits w64 (c .before .before .before .b .given .0 .0) = search needs in
-    rw (c .before .if1 .taken, c .before .before .before .before .before .before .a .given .1, c .before .before .before .b .given .1)
-    (c .plus .ensures ∙ ap₂ (λ x y. applied 8 (Whole x) (Whole y) Error) (toZ-ofZ fx) (toZ-ofZ fy))
+    let e = c .before .before in
+    let s = e .before .before in
+    rw (c .before .if3 .taken, first (e .before), second e) (c .plus .ensures ∙ ap₂ (λ x y. rootOf (applied 8 (whole x) (whole y) error)) (toZ-ofZ (s .fits .x)) (toZ-ofZ (s .fits .y)))
 
 minus-requires : tie.Need-minus-requires
-minus-requires c κs = search needs
+minus-requires c κs = tt
 
 returns-4 : tie.Need-returns-4
 returns-4 c =
-    let e : _≡_ {A = ℕ} (c .before .before .before .before .before .before .before .before .args .code) 9 = omega arith in
-    let fx : SFits w64 (c .before .before .before .before .before .before .a .given .0 .0) = search needs in
-    let fy : SFits w64 (c .before .before .before .b .given .0 .0) = search needs in
-    rw (e, c .before .before .before .before .before .before .a .given .1, c .before .before .before .b .given .1)
-    (c .minus .ensures ∙ ap₂ (λ x y. applied 9 (Whole x) (Whole y) Error) (toZ-ofZ fx) (toZ-ofZ fy))
+    let e = c .before .before in
+    let s = e .before .before in
+    let n : _≡_ {A = ℕ} (s .args .code) 9 = omega arith in
+    rw (n, first (e .before), second e) (c .minus .ensures ∙ ap₂ (λ x y. rootOf (applied 9 (whole x) (whole y) error)) (toZ-ofZ (s .fits .x)) (toZ-ofZ (s .fits .y)))
 
 pub arithmetic-spec : {M : Type 1} → statement M
-arithmetic-spec =
-    tie.close (tie.spec enum-known-a returns enum-known-b returns-2 plus-requires returns-3 minus-requires returns-4)
+arithmetic-spec = tie.close (tie.spec an-error-requires returns an-error-requires-2 returns-2 plus-requires returns-3 minus-requires returns-4)

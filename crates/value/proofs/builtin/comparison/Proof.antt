@@ -1,54 +1,68 @@
+use mathlib.Core.Path.{_≡_, ap, _∙_}
+use Prim.Native.Nat.{ℕ}
 use native.Mathlib.Omega.{arith}
-use Prim.Native.Nat.{ℕ, _^_, _<_}
-use mathlib.Core.Path.{_≡_, ap}
-use lib.Signed.{mag}
-use mir.Syntax.{w64}
-use mir.Val.{SFits}
 use mir.Facts.{toZ-ofZ}
-use borrow.Author.Needs.{needs}
-use Rattle.value.specs.Builtin.{applied}
-use Rattle.value.specs.declared.builtin.Scalar.the-variants.{Truth}
+use Rattle.minuska.specs.Term.{truth, whole}
+use Rattle.value.specs.Builtin.{labelAt, rootOf, applied}
 use Rattle.value.proofs.Shift.{eq-bits}
-use Rattle.value.proofs.BuiltinLaw.{no-whole, no-first-whole, no-second-whole}
+use Rattle.value.proofs.BuiltinLaw.{is-whole, no-whole, no-first-whole, no-second-whole}
 use Rattle.value.proofs.builtin.comparison.Statement.{statement}
 use Rattle.value.proofs.builtin.comparison.Tie as tie
 
-enum-known-a : tie.Need-enum-known-a
-enum-known-a c = search needs
+-- both are whole numbers
+first : (c : tie.Else1) → labelAt (c .before .args .a) (c .before .args .x) ≡ whole (c .before .args .x)
+first c = is-whole (c .before .args .a) (c .before .args .x) (c .before .fits .a) (c .if1 .left)
+
+second : (c : tie.Else2) → labelAt (c .before .before .args .b) (c .before .before .args .y) ≡ whole (c .before .before .args .y)
+second c = let s = c .before .before in is-whole (s .args .b) (s .args .y) (s .fits .b) (c .if2 .left)
+
+an-error-requires : tie.Need-an-error-requires
+an-error-requires c κs = tt
 
 returns : tie.Need-returns
-returns c = no-first-whole _ _ _ _ (omega arith) (omega arith) (no-whole (c .before .args .a) (c .match .keys2))
+returns c =
+    let s = c .before .before in
+    c .an-error .ensures ∙ ap rootOf (no-first-whole _ _ _ _ (omega arith) (omega arith) (no-whole (s .args .a) (s .args .x) (c .before .if1 .taken)))
 
-enum-known-b : tie.Need-enum-known-b
-enum-known-b c = search needs
+an-error-requires-2 : tie.Need-an-error-requires-2
+an-error-requires-2 c κs = tt
 
 returns-2 : tie.Need-returns-2
-returns-2 c = no-second-whole _ _ _ _ (omega arith) (omega arith) _ (c .before .before .a .given .1) (no-whole (c .before .before .before .before .args .b) (c .match2 .keys2))
+returns-2 c =
+    let e = c .before .before in
+    let s = e .before in
+    c .an-error2 .ensures ∙ ap rootOf (no-second-whole _ _ _ _ (omega arith) (omega arith) _ (first e) (no-whole (s .args .b) (s .args .y) (c .before .if2 .taken)))
+
+a-truth-requires : tie.Need-a-truth-requires
+a-truth-requires c κs = tt
 
 returns-3 : tie.Need-returns-3
 unfolding applied
 returns-3 c =
-    let x = c .before .before .before .before .before .a .given .0 .0 in
-    let y = c .before .before .b .given .0 .0 in
-    let fx : mag x < 2 ^ 63 = search needs in
-    let fy : mag y < 2 ^ 63 = search needs in
-    rw (c .if1 .taken, c .before .before .before .before .before .a .given .1, c .before .before .b .given .1) (ap Truth (eq-bits x y fx fy))
+    let e = c .before .before in
+    let s = e .before .before in
+    c .a-truth .ensures ∙ rw (c .before .if3 .taken, first (e .before), second e) (ap (λ b. rootOf (truth b)) (eq-bits (s .args .x) (s .args .y) (s .fits .x .sfits) (s .fits .y .sfits)))
+
+a-truth-requires-2 : tie.Need-a-truth-requires-2
+a-truth-requires-2 c κs = tt
 
 returns-4 : tie.Need-returns-4
 unfolding applied
 returns-4 c =
-    let fx : SFits w64 (c .before .before .before .before .before .before .a .given .0 .0) = search needs in
-    let fy : SFits w64 (c .before .before .before .b .given .0 .0) = search needs in
-    rw (c .if2 .taken, c .before .before .before .before .before .before .a .given .1, c .before .before .before .b .given .1, toZ-ofZ fx, toZ-ofZ fy)
+    let e = c .before .before .before in
+    let s = e .before .before in
+    c .a-truth2 .ensures ∙ rw (c .before .if4 .taken, first (e .before), second e, toZ-ofZ (s .fits .x), toZ-ofZ (s .fits .y))
+
+a-truth-requires-3 : tie.Need-a-truth-requires-3
+a-truth-requires-3 c κs = tt
 
 returns-5 : tie.Need-returns-5
 unfolding applied
 returns-5 c =
-    let e : _≡_ {A = ℕ} (c .before .before .before .before .before .before .before .before .args .code) 12 = omega arith in
-    let fx : SFits w64 (c .before .before .before .before .before .before .a .given .0 .0) = search needs in
-    let fy : SFits w64 (c .before .before .before .b .given .0 .0) = search needs in
-    rw (e, c .before .before .before .before .before .before .a .given .1, c .before .before .before .b .given .1, toZ-ofZ fx, toZ-ofZ fy)
+    let e = c .before .before .before in
+    let s = e .before .before in
+    let n : _≡_ {A = ℕ} (s .args .code) 12 = omega arith in
+    c .a-truth3 .ensures ∙ rw (n, first (e .before), second e, toZ-ofZ (s .fits .x), toZ-ofZ (s .fits .y))
 
 pub comparison-spec : {M : Type 1} → statement M
-comparison-spec =
-    tie.close (tie.spec enum-known-a returns enum-known-b returns-2 returns-3 returns-4 returns-5)
+comparison-spec = tie.close (tie.spec an-error-requires returns an-error-requires-2 returns-2 a-truth-requires returns-3 a-truth-requires-2 returns-4 a-truth-requires-3 returns-5)

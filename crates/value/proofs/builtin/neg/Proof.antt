@@ -1,19 +1,23 @@
-use borrow.Author.Needs.{needs}
-use Rattle.value.specs.Builtin.{applied}
-use Rattle.value.proofs.BuiltinLaw.{no-truth}
+use mathlib.Core.Path.{ap, _∙_}
+use Rattle.value.specs.Builtin.{labelAt, rootOf, applied}
+use Rattle.value.proofs.BuiltinLaw.{is-truth, no-truth, neg-other}
 use Rattle.value.proofs.builtin.neg.Statement.{statement}
 use Rattle.value.proofs.builtin.neg.Tie as tie
 
-enum-known-a : tie.Need-enum-known-a
-enum-known-a c = search needs
+a-truth-requires : tie.Need-a-truth-requires
+a-truth-requires c κs = tt
 
 returns : tie.Need-returns
 unfolding applied
-returns c = rw (no-truth (c .before .args .a) (c .match .keys2))
+returns c = let s = c .before .before in c .a-truth .ensures ∙ rw (is-truth (s .args .a) (s .args .x) (s .fits .a) (c .before .if1 .taken))
+
+an-error-requires : tie.Need-an-error-requires
+an-error-requires c κs = tt
 
 returns-2 : tie.Need-returns-2
-unfolding applied
-returns-2 c = rw (c .before .a .given .1)
+returns-2 c =
+    let s = c .before .before in
+    c .an-error .ensures ∙ ap rootOf (neg-other _ (no-truth (s .args .a) (s .args .x) (c .before .if1 .left)))
 
 pub neg-spec : {M : Type 1} → statement M
-neg-spec = tie.close (tie.spec enum-known-a returns returns-2)
+neg-spec = tie.close (tie.spec a-truth-requires returns an-error-requires returns-2)

@@ -1,27 +1,34 @@
-use mathlib.Core.Path.{ap₂, sym, _∙_}
+use mathlib.Core.Path.{ap, ap₂, sym, _∙_}
 use lib.IntN.{_+ℤ_}
 use mir.Facts.{toZ-ofZ}
-use borrow.Author.Needs.{needs}
-use Rattle.value.specs.Builtin.{applied}
+use Rattle.value.specs.Builtin.{rootOf, applied}
 use Rattle.value.proofs.BuiltinLaw.{in-word, whole-in, whole-out}
 use Rattle.value.proofs.builtin.plus.Statement.{statement}
 use Rattle.value.proofs.builtin.plus.Tie as tie
 
 sum-fits-requires : tie.Need-sum-fits-requires
-sum-fits-requires c κs = search needs
+sum-fits-requires c κs = tt
 
-add-t4 : tie.Need-add-t4
-add-t4 c = in-word _ (sym (c .before .sum-fits .ensures) ∙ c .if1 .taken)
+add-a-whole : tie.Need-add-a-whole
+add-a-whole c = in-word _ (sym (c .before .sum-fits .ensures) ∙ c .if1 .taken)
+
+a-whole-requires : tie.Need-a-whole-requires
+a-whole-requires c κs = tt
 
 returns : tie.Need-returns
 unfolding applied
 returns c =
-    whole-in _ _ (ap₂ _+ℤ_ (toZ-ofZ (c .before .before .fits .a)) (toZ-ofZ (c .before .before .fits .b))) (sym (c .before .sum-fits .ensures) ∙ c .if1 .taken)
+    let s = c .before .before .before in
+    c .a-whole .ensures ∙ ap rootOf (whole-in _ _ (ap₂ _+ℤ_ (toZ-ofZ (s .fits .a)) (toZ-ofZ (s .fits .b))) (sym (c .before .before .sum-fits .ensures) ∙ c .before .if1 .taken))
+
+an-error-requires : tie.Need-an-error-requires
+an-error-requires c κs = tt
 
 returns-2 : tie.Need-returns-2
 unfolding applied
 returns-2 c =
-    whole-out _ _ (ap₂ _+ℤ_ (toZ-ofZ (c .before .before .fits .a)) (toZ-ofZ (c .before .before .fits .b))) (sym (c .before .sum-fits .ensures) ∙ c .if1 .left)
+    let s = c .before .before .before in
+    c .an-error .ensures ∙ ap rootOf (whole-out _ _ (ap₂ _+ℤ_ (toZ-ofZ (s .fits .a)) (toZ-ofZ (s .fits .b))) (sym (c .before .before .sum-fits .ensures) ∙ c .before .if1 .left))
 
 pub plus-spec : {M : Type 1} → statement M
-plus-spec = tie.close (tie.spec sum-fits-requires add-t4 returns returns-2)
+plus-spec = tie.close (tie.spec sum-fits-requires add-a-whole a-whole-requires returns an-error-requires returns-2)

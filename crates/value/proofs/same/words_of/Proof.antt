@@ -2,8 +2,8 @@ use mathlib.Core.Path.{_∙_}
 use borrow.Author.Needs.{needs}
 use Rattle.value.specs.Value.{valueWords, ownWords}
 use Rattle.value.proofs.WordsLaw.{part-is}
-use Rattle.value.proofs.words_of.Statement.{statement}
-use Rattle.value.proofs.words_of.Tie as tie
+use Rattle.value.proofs.same.words_of.Statement.{statement}
+use Rattle.value.proofs.same.words_of.Tie as tie
 
 enum-told : tie.Need-enum-told
 enum-told c = search needs

@@ -1,6 +1,6 @@
 use borrow.Author.Needs.{needs}
-use Rattle.value.proofs.same.Statement.{statement}
-use Rattle.value.proofs.same.Tie as tie
+use Rattle.value.proofs.same.same.Statement.{statement}
+use Rattle.value.proofs.same.same.Tie as tie
 
 own-words-requires : tie.Need-own-words-requires
 own-words-requires c κs = search needs

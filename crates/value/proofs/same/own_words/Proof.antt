@@ -5,8 +5,8 @@ use mir.Facts.{toZ-ofZ}
 use borrow.Author.Needs.{needs}
 use Rattle.value.specs.Value.{ownWords}
 use Rattle.value.proofs.WordsLaw.{own-none}
-use Rattle.value.proofs.own_words.Statement.{statement}
-use Rattle.value.proofs.own_words.Tie as tie
+use Rattle.value.proofs.same.own_words.Statement.{statement}
+use Rattle.value.proofs.same.own_words.Tie as tie
 
 enum-known-v : tie.Need-enum-known-v
 enum-known-v c = search needs
