@@ -37,8 +37,8 @@ use Rattle.minuska.proofs.MatchLaw.{match-sound, matches-binds}
 use Rattle.minuska.proofs.ConditionLaw.{has-value}
 use Rattle.step.specs.declared.right.Fit.{Fit}
 use Rattle.step.specs.declared.right.Fit.the-variants.{Words, TooLarge}
-use Rattle.step.specs.declared.passed.Passed.{Passed}
-use Rattle.step.specs.declared.passed.Passed.the-variants.{All, Until}
+use Rattle.step.specs.declared.how_far.HowFar.{HowFar}
+use Rattle.step.specs.declared.how_far.HowFar.the-variants.{All, Until}
 use Rattle.step.specs.declared.rule.Verdict.{Verdict}
 use Rattle.step.specs.declared.rule.Verdict.the-variants.{Misfit, Fails, Applies}
 use Rattle.step.specs.Compare.{Comparison, agreed, apart, comparison, passedBy, boundBy}
@@ -146,7 +146,7 @@ module _ (ws cs : List ℤ) (n : ℕ) (rule : Rule) (g : Term) (a : Candidate ws
   pub verdict-applies : (verdictOf rule g ≡ Applies) ↔ ((h : Term) × (successor rule g ≡ some h))
   verdict-applies = go (comparison (rule .left) g) matched-by
     where
-      judged : (ρ : Valuation) → tryMatch (single (rule .left)) (single g) unbound ≡ some ρ → (p : Passed) → allOf p ≡ holdAll ρ (rule .conditions) → (verdictHeld p ≡ Applies) ↔ ((h : Term) × (successor rule g ≡ some h))
+      judged : (ρ : Valuation) → tryMatch (single (rule .left)) (single g) unbound ≡ some ρ → (p : HowFar) → allOf p ≡ holdAll ρ (rule .conditions) → (verdictHeld p ≡ Applies) ↔ ((h : Term) × (successor rule g ≡ some h))
       judged ρ m All e = (λ q. let (h, v) = right-value ρ m in (h, held ρ m true (sym e) ∙ v), λ x. refl)
       judged ρ m (Until k) e = (λ q. absurd (let z : _≡_ {A = ℕ} 0 1 = cc in let f : ⊥ = omega arith in f), λ x. absurd (Option·none-ne-some (x .0) (sym (held ρ m false (sym e)) ∙ x .1)))
 

@@ -17,16 +17,16 @@ use Rattle.minuska.specs.Bridge.Place.{Stands, Binds}
 use Rattle.minuska.proofs.Bridge.PlaceLaw.{stands-first, stands-second}
 use Rattle.value.specs.declared.Tested.{Tested}
 use Rattle.value.specs.Evaluate.{Placed, HasValue, ConditionAt, ConditionIn, ConditionContract}
-use Rattle.step.specs.declared.passed.Passed.{Passed}
-use Rattle.step.specs.declared.passed.Passed.the-variants.{All, Until}
-use Rattle.step.specs.Conditions.{allOf, furtherBy, heldBy, Side, Sides, Conditions, SomeConditions, HoldAllIs}
+use Rattle.step.specs.declared.how_far.HowFar.{HowFar}
+use Rattle.step.specs.declared.how_far.HowFar.the-variants.{All, Until}
+use Rattle.step.specs.Conditions.{allOf, furtherBy, heldBy, SideWorth, SidesWorth, StandingConditions, SomeConditions, HoldAllIs}
 
 -- ---- how far conditions hold
-further-none : (p : Passed) → furtherBy 0 p ≡ p
+further-none : (p : HowFar) → furtherBy 0 p ≡ p
 further-none All = refl
 further-none (Until k) = ap Until (zero-add k)
 
-further-one : (k : ℕ) (p : Passed) → furtherBy k (furtherBy 1 p) ≡ furtherBy (k + 1) p
+further-one : (k : ℕ) (p : HowFar) → furtherBy k (furtherBy 1 p) ≡ furtherBy (k + 1) p
 further-one k All = refl
 further-one k (Until m) = ap Until (let e : k + (1 + m) ≡ k + 1 + m = omega arith in e)
 
@@ -35,19 +35,19 @@ pub held-all : (ρ : Valuation) (conds : List SideCondition) → allOf (heldBy �
 held-all ρ [] = refl
 held-all ρ (c ∷ conds) = pick (holds ρ c) (heldBy ρ conds) (held-all ρ conds)
   where
-    pick : (b : Bool) (p : Passed) → allOf p ≡ holdAll ρ conds → allOf (cond b (furtherBy 1 p) (Until 0)) ≡ b && holdAll ρ conds
+    pick : (b : Bool) (p : HowFar) → allOf p ≡ holdAll ρ conds → allOf (cond b (furtherBy 1 p) (Until 0)) ≡ b && holdAll ρ conds
     pick true All e = e
     pick true (Until k) e = e
     pick false p e = refl
 
-module _ (ws cs : List ℤ) (starts ends : List ℕ) (end i : ℕ) (ρ : Valuation) (c : SideCondition) (later : List SideCondition) (x : Conditions ws cs starts ends i end ρ (c ∷ later)) where
+module _ (ws cs : List ℤ) (starts ends : List ℕ) (end i : ℕ) (ρ : Valuation) (c : SideCondition) (later : List SideCondition) (x : StandingConditions ws cs starts ends i end ρ (c ∷ later)) where
   abbrev A : List ℤ
   A = encode (single (c .first))
 
   abbrev B : List ℤ
   B = encode (single (c .second))
 
-  has-at : (at : ℕ) (e : Term) (s : Side ρ e) → Stands ws at (encode (single e)) → HasValue ws cs starts ends at ρ e (s .term)
+  has-at : (at : ℕ) (e : Term) (s : SideWorth ρ e) → Stands ws at (encode (single e)) → HasValue ws cs starts ends at ρ e (s .term)
   has-at at e s h = record { placed = record { good = s .good; expressions = s .expression; stands = h; binds = x .binds }; is = s .is }
 
   -- the first condition
@@ -67,7 +67,7 @@ module _ (ws cs : List ℤ) (starts ends : List ℕ) (end i : ℕ) (ρ : Valuati
     next-is = y .meant ρ c first-condition .next
 
     -- those behind it
-    pub later-conditions : Conditions ws cs starts ends (r .next) end ρ later
+    pub later-conditions : StandingConditions ws cs starts ends (r .next) end ρ later
     later-conditions =
         record {
           sides = x .sides .2;
@@ -85,17 +85,17 @@ module _ (ws cs : List ℤ) (starts ends : List ℕ) (end i : ℕ) (ρ : Valuati
 module _ (ws cs : List ℤ) (starts ends : List ℕ) (at end : ℕ) where
   -- how far the conditions have held: k of them, and the rest stands from place i on
   pub record Holding (i k : ℕ) : Type 0 where
-    pub rest : (ρ : Valuation) (conds : List SideCondition) → Conditions ws cs starts ends at end ρ conds → (later : List SideCondition) × Conditions ws cs starts ends i end ρ later × (heldBy ρ conds ≡ furtherBy k (heldBy ρ later))
+    pub rest : (ρ : Valuation) (conds : List SideCondition) → StandingConditions ws cs starts ends at end ρ conds → (later : List SideCondition) × StandingConditions ws cs starts ends i end ρ later × (heldBy ρ conds ≡ furtherBy k (heldBy ρ later))
 
   pub holding-first : Holding at 0
   holding-first = record { rest = λ ρ conds x. (conds, x, sym (further-none (heldBy ρ conds))) }
 
   -- a place before the end: a condition stands there
-  some-later : (i : ℕ) (ρ : Valuation) (later : List SideCondition) → Conditions ws cs starts ends i end ρ later → i < end → (c : SideCondition) × (more : List SideCondition) × (later ≡ c ∷ more)
+  some-later : (i : ℕ) (ρ : Valuation) (later : List SideCondition) → StandingConditions ws cs starts ends i end ρ later → i < end → (c : SideCondition) × (more : List SideCondition) × (later ≡ c ∷ more)
   some-later i ρ [] x h = absurd (let e = x .upTo in let f : ⊥ = omega arith in f)
   some-later i ρ (c ∷ more) x h = (c, more, refl)
 
-  none-later : (i : ℕ) (ρ : Valuation) (later : List SideCondition) → Conditions ws cs starts ends i end ρ later → end ≤ i → heldBy ρ later ≡ All
+  none-later : (i : ℕ) (ρ : Valuation) (later : List SideCondition) → StandingConditions ws cs starts ends i end ρ later → end ≤ i → heldBy ρ later ≡ All
   none-later i ρ [] x h = refl
   none-later i ρ (c ∷ more) x h = absurd (let e = x .upTo in let f : ⊥ = omega (arith, length-append (encode (single (c .first))) (encode (single (c .second)) ++ conditionWords more)) in f)
 
@@ -105,11 +105,11 @@ module _ (ws cs : List ℤ) (starts ends : List ℕ) (at end : ℕ) where
 
     module _ (below : i < end) where
       -- the condition there, of a rest that there is
-      next-condition : (ρ : Valuation) (conds : List SideCondition) → Conditions ws cs starts ends at end ρ conds → (c : SideCondition) × (more : List SideCondition) × Conditions ws cs starts ends i end ρ (c ∷ more) × (heldBy ρ conds ≡ furtherBy k (heldBy ρ (c ∷ more)))
+      next-condition : (ρ : Valuation) (conds : List SideCondition) → StandingConditions ws cs starts ends at end ρ conds → (c : SideCondition) × (more : List SideCondition) × StandingConditions ws cs starts ends i end ρ (c ∷ more) × (heldBy ρ conds ≡ furtherBy k (heldBy ρ (c ∷ more)))
       next-condition ρ conds x =
           let (later, y, e) = m .rest ρ conds x in
           let (c, more, p) = some-later i ρ later y below in
-          (c, more, subst (Conditions ws cs starts ends i end ρ) p y, e ∙ ap (λ (l : List SideCondition). furtherBy k (heldBy ρ l)) p)
+          (c, more, subst (StandingConditions ws cs starts ends i end ρ) p y, e ∙ ap (λ (l : List SideCondition). furtherBy k (heldBy ρ l)) p)
 
       pub condition-needs : SomeConditions ws cs starts ends at end → ConditionIn ws cs starts ends i
       condition-needs s =

@@ -18,7 +18,7 @@ use Rattle.minuska.specs.Bridge.Place.{Stands, BoundAt, Binds}
 use Rattle.minuska.proofs.Tests.{and-left, and-right}
 use Rattle.minuska.proofs.Bridge.PlaceLaw.{stands-whole}
 use Rattle.minuska.proofs.MatchLaw.{match-sound, match-complete}
-use Rattle.step.specs.declared.passed.Passed.the-variants.{All, Until}
+use Rattle.step.specs.declared.how_far.HowFar.the-variants.{All, Until}
 use Rattle.step.specs.Compare.{Comparison, apart, comparison, passedBy, boundBy}
 use Rattle.step.specs.Matching.{IsLeft, LeftMatched, Walk, Walking, Put, After, LeftTurned}
 use Rattle.step.specs.declared.matching.LeftTurn.{LeftTurn}

@@ -175,11 +175,11 @@ module _ {table : List ℤ} {i end : ℕ} {config : List ℤ} {j : ℕ} {starts 
   turned-other f = record { after = λ n o h w. heads w h (λ l ls lss g gs gss σ k. after-other l ls lss g gs gss σ k plain f) }
 
 -- both have a node's two words there
-pub record Room (table : List ℤ) (i : ℕ) (config : List ℤ) (j : ℕ) : Type 0 where
+pub record NodesThere (table : List ℤ) (i : ℕ) (config : List ℤ) (j : ℕ) : Type 0 where
   pub left : i + 2 ≤ length table
   pub ground : j + 2 ≤ length config
 
-pub room : {table : List ℤ} {i end : ℕ} {config : List ℤ} {j : ℕ} {starts ends : List ℕ} → TurnFrom table i end config j starts ends → Room table i config j
+pub room : {table : List ℤ} {i end : ℕ} {config : List ℤ} {j : ℕ} {starts ends : List ℕ} → TurnFrom table i end config j starts ends → NodesThere table i config j
 room {table} {i} {end} {config} {j} t = heads (t .walking) (t .before) λ l ls lss g gs gss σ k. record { left = omega (arith, k .leftStands .within); ground = omega (arith, k .groundStands .within) }
 
 pub ground-at : {table : List ℤ} {i end : ℕ} {config : List ℤ} {j : ℕ} {starts ends : List ℕ} → TurnFrom table i end config j starts ends → GroundAt config j

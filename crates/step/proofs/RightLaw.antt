@@ -30,7 +30,7 @@ use Rattle.value.specs.declared.Value.the-variants as W
 use Rattle.value.specs.Value.{valueWords, Within, sizeOf, Ordered}
 use Rattle.value.specs.Evaluate.{HasValue, ExpressionIn, EvaluateContract}
 use Rattle.value.proofs.WordsLaw.{size-is, within-ordered}
-use Rattle.step.specs.Right.{Rest, SomeRest, Leads, ItemOf, ItemIs, SizedOf, SizedIs, SomePiece, PieceIs, OneNodeIs}
+use Rattle.step.specs.Right.{Rest, SomeRest, LeadsOn, ItemOf, ItemIs, SizedOf, SizedIs, SomePiece, PieceIs, OneNodeIs}
 use Rattle.step.proofs.MatchingLaw.{word, childless}
 use Rattle.step.proofs.MatchingVariable.{tag-three}
 
@@ -99,7 +99,7 @@ module _ {ws cs : List ℤ} {starts ends : List ℕ} {at end : ℕ} {ρ : Valuat
       }
 
   -- a term's words are emitted for the first term
-  leads-on : (t : Term) (words : List ℤ) → encode (single t) ++ words ≡ us → emit ρ ss ≡ some words → Leads ws cs starts ends at end ρ us (encode (single t)) (at + length (encode (single this)))
+  leads-on : (t : Term) (words : List ℤ) → encode (single t) ++ words ≡ us → emit ρ ss ≡ some words → LeadsOn ws cs starts ends at end ρ us (encode (single t)) (at + length (encode (single this)))
   leads-on t words p e = record { later = ss; words = words; parted = p; forward = omega arith; rest = behind words e }
 
   expression-shape : T (expressionAt (role l) (isExpression ls) (isExpressionTerm ls))
@@ -122,7 +122,7 @@ module _ {ws cs : List ℤ} {starts ends : List ℕ} {at end : ℕ} {ρ : Valuat
       record {
         datum = subst⁻¹ (λ (y : ℤ). T (nonNeg y)) d tt;
         low = b .variable;
-        item = record { within = (omega (arith, b .ends), omega (arith, b .ends, b .stands .within)); leads = subst₂ (λ (vs : List ℤ) (j : ℕ). Leads ws cs starts ends at end ρ us vs j) (sym k) q (leads-on (i .0) (i .1) (i .3) (i .4)) };
+        item = record { within = (omega (arith, b .ends), omega (arith, b .ends, b .stands .within)); leads = subst₂ (λ (vs : List ℤ) (j : ℕ). LeadsOn ws cs starts ends at end ρ us vs j) (sym k) q (leads-on (i .0) (i .1) (i .3) (i .4)) };
       }
 
   -- ---- a call: an expression that is worth a function's value
@@ -131,7 +131,7 @@ module _ {ws cs : List ℤ} {starts ends : List ℕ} {at end : ℕ} {ρ : Valuat
       code : ℕ
       arguments : Forest
       has : HasValue ws cs starts ends at ρ this (interpret code arguments)
-      leads : Leads ws cs starts ends at end ρ us (encode (single (interpret code arguments))) (at + length (encode (single this)))
+      leads : LeadsOn ws cs starts ends at end ρ us (encode (single (interpret code arguments))) (at + length (encode (single this)))
 
     call-here : CallItem
     call-here =
@@ -155,13 +155,13 @@ module _ {ws cs : List ℤ} {starts ends : List ℕ} {at end : ℕ} {ρ : Valuat
     evaluated-item s c =
         let g = call-here in
         let m = c .meant ρ this (interpret (g .code) (g .arguments)) (g .has) in
-        record { within = m .is .within; leads = subst₂ (λ (vs : List ℤ) (n : ℕ). Leads ws cs starts ends at end ρ us vs n) (sym (m .is .words)) (sym (m .next)) (g .leads) }
+        record { within = m .is .within; leads = subst₂ (λ (vs : List ℤ) (n : ℕ). LeadsOn ws cs starts ends at end ρ us vs n) (sym (m .is .words)) (sym (m .next)) (g .leads) }
 
     call-size : (e : ℕ) → TermEnds ws at e → SizedOf ws cs starts ends at end ρ us (record { words = 2; next = e })
     call-size e x =
         let g = call-here in
         let v = encode (single (interpret (g .code) (g .arguments))) in
-        record { first = v; many = one-node (g .code) (g .arguments); leads = subst (λ (n : ℕ). Leads ws cs starts ends at end ρ us v n) (sym (x .ends this (term-here .good) (term-here .stands))) (g .leads) }
+        record { first = v; many = one-node (g .code) (g .arguments); leads = subst (λ (n : ℕ). LeadsOn ws cs starts ends at end ρ us v n) (sym (x .ends this (term-here .good) (term-here .stands))) (g .leads) }
 
   -- ---- a plain node: its two words as they stand
   abbrev two : List ℤ
@@ -173,7 +173,7 @@ module _ {ws cs : List ℤ} {starts ends : List ℕ} {at end : ℕ} {ρ : Valuat
   two-stand : Stands ws at (two ++ encode (appended ls ss))
   two-stand = subst (Stands ws at) flattened (r .stands)
 
-  node-leads : (tagWord l (termCount ls) ≡ pos 3 → ⊥) → (tagWord l (termCount ls) ≡ pos 4 → ⊥) → Leads ws cs starts ends at end ρ us two (at + 2)
+  node-leads : (tagWord l (termCount ls) ≡ pos 3 → ⊥) → (tagWord l (termCount ls) ≡ pos 4 → ⊥) → LeadsOn ws cs starts ends at end ρ us two (at + 2)
   node-leads f g =
       let k = tag-plain l (termCount ls) f g in
       let i = plain-item ρ l ls ss us (r .emits) k in
@@ -199,7 +199,7 @@ module _ {ws cs : List ℤ} {starts ends : List ℕ} {at end : ℕ} {ρ : Valuat
   node-item f g =
       let h : Stands ws at two = stands-first two (encode (appended ls ss)) two-stand in
       let n : at + 2 - at ≡ 2 = omega arith in
-      record { within = (omega arith, h .within); leads = subst (λ (vs : List ℤ). Leads ws cs starts ends at end ρ us vs (at + 2)) (sym (ap (λ (m : ℕ). take m (drop at ws)) n ∙ h .words)) (node-leads f g) }
+      record { within = (omega arith, h .within); leads = subst (λ (vs : List ℤ). LeadsOn ws cs starts ends at end ρ us vs (at + 2)) (sym (ap (λ (m : ℕ). take m (drop at ws)) n ∙ h .words)) (node-leads f g) }
 
 -- a node's two words
 pub node-within : {ws cs : List ℤ} {starts ends : List ℕ} {at end : ℕ} → at < end → SomeRest ws cs starts ends at end → at + 2 ≤ length ws

@@ -19,7 +19,7 @@ use Rattle.value.proofs.WordsLaw.{size-is}
 use Rattle.step.specs.declared.right.Sized.{Sized}
 use Rattle.step.specs.declared.right.Fit.the-variants.{Words, TooLarge}
 use Rattle.step.specs.Apply.{fitOf}
-use Rattle.step.specs.Right.{Rest, SomeRest, Leads, ItemOf, ItemIs, SizedOf, SizedIs, MeasureRightIs, FittingRest, WriteRightIs}
+use Rattle.step.specs.Right.{Rest, SomeRest, LeadsOn, ItemOf, ItemIs, SizedOf, SizedIs, MeasureRightIs, FittingRest, WriteRightIs}
 
 module _ (ws cs : List ℤ) (starts ends : List ℕ) (at end : ℕ) where
   -- how far the items have come: the words so far, and the rest from place i on
@@ -38,7 +38,7 @@ module _ (ws cs : List ℤ) (starts ends : List ℕ) (at end : ℕ) where
     pub come-end : end ≤ i → so-far ≡ us
     come-end h = sym (append-nil so-far) ∙ (ap (λ (x : List ℤ). so-far ++ x) (sym (nothing-left i ρ (c .later) (c .words) (c .rest) h)) ∙ c .joined)
 
-    module _ (vs : List ℤ) (next : ℕ) (t : Leads ws cs starts ends i end ρ (c .words) vs next) where
+    module _ (vs : List ℤ) (next : ℕ) (t : LeadsOn ws cs starts ends i end ρ (c .words) vs next) where
       come-on : Come us ρ next (so-far ++ vs)
       come-on =
           record { later = t .later; words = t .words; rest = t .rest; joined = append-assoc so-far vs (t .words) ∙ (ap (λ (z : List ℤ). so-far ++ z) (t .parted) ∙ c .joined) }

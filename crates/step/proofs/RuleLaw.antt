@@ -23,9 +23,9 @@ use Rattle.minuska.proofs.ConditionLaw.{has-value}
 use Rattle.minuska.proofs.Bridge.WriteLaw.{emit-values}
 use Rattle.step.specs.Apply.{Candidate, Matched, SomeMatched, MatchIs, HoldIs, MeasureIs, WordsFit, WriteIs}
 use Rattle.step.specs.Matching.{IsLeft, LeftIn, MatchContract}
-use Rattle.step.specs.Conditions.{Sides, Conditions, SomeConditions, HoldAllIs}
+use Rattle.step.specs.Conditions.{SidesWorth, StandingConditions, SomeConditions, HoldAllIs}
 use Rattle.step.specs.Right.{Rest, SomeRest, MeasureRightIs, FittingRest, WriteRightIs}
-use Rattle.step.specs.declared.passed.Passed.{Passed}
+use Rattle.step.specs.declared.how_far.HowFar.{HowFar}
 use Rattle.step.specs.declared.right.Fit.{Fit}
 
 module _ (ws : List ℤ) (n : ℕ) where
@@ -42,7 +42,7 @@ module _ (ws : List ℤ) (n : ℕ) where
     pub left-in : Names ws n → LeftIn ws from to
     left-in a = record { left = a .rule .left; is = is-left (a .table) (a .rule) (a .is) (a .numbered) }
 
-    pub match-is : (cs : List ℤ) (starts starts′ ends′ : List ℕ) (r : Passed) → MatchContract ws from to cs starts starts′ ends′ r → MatchIs ws cs n starts′ ends′ r
+    pub match-is : (cs : List ℤ) (starts starts′ ends′ : List ℕ) (r : HowFar) → MatchContract ws from to cs starts starts′ ends′ r → MatchIs ws cs n starts′ ends′ r
     match-is cs starts starts′ ends′ r m =
         record {
           answer = λ rule g a. m .each (rule .left) g (is-left (a .table) rule (a .is) (a .numbered)) (a .configuration) .answer;
@@ -57,7 +57,7 @@ module _ (ws : List ℤ) (n : ℕ) where
       satisfied : Matches ρ (single (rule .left)) (single g)
       satisfied = match-sound (single (rule .left)) (single g) unbound ρ (m .matched) .0
 
-      sides : (conds : List SideCondition) → T (every (okCondition (rule .left)) conds) → Sides ρ conds
+      sides : (conds : List SideCondition) → T (every (okCondition (rule .left)) conds) → SidesWorth ρ conds
       sides [] y = tt
       sides (c ∷ conds) y =
           let k = good-condition (rule .left) c (and-left (okCondition (rule .left) c) (every (okCondition (rule .left)) conds) y) in
@@ -74,7 +74,7 @@ module _ (ws : List ℤ) (n : ℕ) where
 
     -- ---- the conditions
     module _ (from to : ℕ) (x : PartIs conditionsWords ws n from to) where
-      conditions-at : (rule : Rule) (g : Term) (ρ : Valuation) → Matched ws cs n starts ends rule g ρ → Conditions ws cs starts ends from to ρ (rule .conditions)
+      conditions-at : (rule : Rule) (g : Term) (ρ : Valuation) → Matched ws cs n starts ends rule g ρ → StandingConditions ws cs starts ends from to ρ (rule .conditions)
       conditions-at rule g ρ m =
           record {
             sides = sides rule g ρ m (rule .conditions) (good rule (okay rule g ρ m) .conditions);
@@ -86,7 +86,7 @@ module _ (ws : List ℤ) (n : ℕ) where
       pub some-conditions : SomeMatched ws cs n starts ends → SomeConditions ws cs starts ends from to
       some-conditions s = record { valuation = s .valuation; conditions = s .rule .conditions; is = conditions-at (s .rule) (s .configuration) (s .valuation) (s .is) }
 
-      pub hold-is : (r : Passed) → HoldAllIs ws cs starts ends from to r → HoldIs ws cs n starts ends r
+      pub hold-is : (r : HowFar) → HoldAllIs ws cs starts ends from to r → HoldIs ws cs n starts ends r
       hold-is r h = record { is = λ rule g ρ m. h .is ρ (rule .conditions) (conditions-at rule g ρ m) }
 
     -- ---- the right

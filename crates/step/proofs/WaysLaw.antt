@@ -23,8 +23,8 @@ use Rattle.minuska.specs.Bridge.Place.{Names, Accepted, Binds, ActionIs}
 use Rattle.minuska.proofs.Bridge.AcceptedLaw.{term-length}
 use Rattle.step.specs.declared.right.Fit.{Fit}
 use Rattle.step.specs.declared.right.Fit.the-variants.{Words, TooLarge}
-use Rattle.step.specs.declared.passed.Passed.{Passed}
-use Rattle.step.specs.declared.passed.Passed.the-variants.{All, Until}
+use Rattle.step.specs.declared.how_far.HowFar.{HowFar}
+use Rattle.step.specs.declared.how_far.HowFar.the-variants.{All, Until}
 use Rattle.step.specs.declared.rule.Verdict.{Verdict}
 use Rattle.step.specs.declared.rule.Verdict.the-variants.{Misfit, Applies}
 use Rattle.step.specs.Compare.{Comparison, agreed, apart, comparison, passedBy}
@@ -61,7 +61,7 @@ module _ (ws cs : List ℤ) (n : ℕ) (starts ends : List ℕ) where
   judged r e b =
       record { answer = e; applies = λ rule g a. subst (λ (v : Verdict). (v ≡ Applies) ↔ ((h : Term) × (successor rule g ≡ some h))) (sym (e rule g a)) (verdict-applies ws cs n rule g a); binds = b }
 
-  module _ (p : Passed) (m : MatchIs ws cs n starts ends p) where
+  module _ (p : HowFar) (m : MatchIs ws cs n starts ends p) where
     pub way-misfit : (k : ℕ) → p ≡ Until k → JudgeIs ws cs n starts ends (Misfit k)
     way-misfit k e = judged (Misfit k) (λ rule g a. pick (rule .conditions) (comparison (rule .left) g) (sym (m .answer rule g a) ∙ e)) (m .binds)
       where
@@ -80,6 +80,6 @@ module _ (ws cs : List ℤ) (n : ℕ) (starts ends : List ℕ) where
           let (ρ, c, e) = matching (a .rule) (y .term) (record { table = a .table; is = a .is; numbered = a .numbered; configuration = y .is }) in
           record { rule = a .rule; configuration = y .term; valuation = ρ; is = e }
 
-      pub way-held : (q : Passed) → HoldIs ws cs n starts ends q → (r : Verdict) → r ≡ verdictHeld q → JudgeIs ws cs n starts ends r
+      pub way-held : (q : HowFar) → HoldIs ws cs n starts ends q → (r : Verdict) → r ≡ verdictHeld q → JudgeIs ws cs n starts ends r
       way-held q h r e =
           judged r (λ rule g a. let (ρ, c, x) = matching rule g a in e ∙ (ap verdictHeld (h .is rule g ρ x) ∙ sym (ap (verdictBy (rule .conditions)) c))) (m .binds)

@@ -20,8 +20,8 @@ use Rattle.minuska.specs.Computed.Match.{tryMatch, unbound}
 use Rattle.minuska.specs.Computed.Value.{value}
 use Rattle.minuska.specs.Computed.Step.{successor}
 use Rattle.minuska.specs.Bridge.Place.{Binds}
-use Rattle.step.specs.declared.passed.Passed.{Passed}
-use Rattle.step.specs.declared.passed.Passed.the-variants.{All, Until}
+use Rattle.step.specs.declared.how_far.HowFar.{HowFar}
+use Rattle.step.specs.declared.how_far.HowFar.the-variants.{All, Until}
 use Rattle.step.specs.declared.rule.Verdict.{Verdict}
 use Rattle.step.specs.declared.rule.Verdict.the-variants.{Misfit, Fails, Applies}
 use Rattle.step.specs.Compare.{Comparison, agreed, apart, comparison, passedBy}
@@ -50,16 +50,16 @@ pub record SomeMatched (ws cs : List ℤ) (n : ℕ) (starts ends : List ℕ) : T
   pub is : Matched ws cs n starts ends rule configuration valuation
 
 -- the left's answer: how far it agrees, and, if it matches, where the variables' terms stand
-pub record MatchIs (ws cs : List ℤ) (n : ℕ) (starts′ ends′ : List ℕ) (r : Passed) : Type 0 where
+pub record MatchIs (ws cs : List ℤ) (n : ℕ) (starts′ ends′ : List ℕ) (r : HowFar) : Type 0 where
   pub answer : (rule : Rule) (g : Term) → Candidate ws cs n rule g → r ≡ passedBy (comparison (rule .left) g)
   pub binds : (rule : Rule) (g : Term) (ρ : Valuation) → Candidate ws cs n rule g → tryMatch (single (rule .left)) (single g) unbound ≡ some ρ → Binds cs starts′ ends′ ρ
 
 -- the conditions' answer: how far they hold
-pub record HoldIs (ws cs : List ℤ) (n : ℕ) (starts ends : List ℕ) (r : Passed) : Type 0 where
+pub record HoldIs (ws cs : List ℤ) (n : ℕ) (starts ends : List ℕ) (r : HowFar) : Type 0 where
   pub is : (rule : Rule) (g : Term) (ρ : Valuation) → Matched ws cs n starts ends rule g ρ → r ≡ heldBy ρ (rule .conditions)
 
 -- both: the first left node that disagrees, or else the first condition that fails, or else that the rule applies
-abbrev pub verdictHeld : Passed → Verdict
+abbrev pub verdictHeld : HowFar → Verdict
 verdictHeld All = Applies
 verdictHeld (Until k) = Fails k
 

@@ -7,8 +7,8 @@ use Rattle.minuska.specs.Term.{Label, Forest, nil, node, Term, single, termCoun
 use Rattle.minuska.specs.Word.{tagWord, datumWord}
 use Rattle.minuska.specs.Satisfaction.{Valuation}
 use Rattle.minuska.specs.Computed.Match.{assign, unbound}
-use Rattle.step.specs.declared.passed.Passed.{Passed}
-use Rattle.step.specs.declared.passed.Passed.the-variants.{All, Until}
+use Rattle.step.specs.declared.how_far.HowFar.{HowFar}
+use Rattle.step.specs.declared.how_far.HowFar.the-variants.{All, Until}
 
 -- all agree, under a valuation; or the place, from 0, of the first left node that does not
 pub data Comparison : Type 0 where
@@ -45,7 +45,7 @@ compare (node l ls lss) (node g gs gss) ρ =
 abbrev pub comparison : Term → Term → Comparison
 comparison l g = compare (single l) (single g) unbound
 
-abbrev pub passedBy : Comparison → Passed
+abbrev pub passedBy : Comparison → HowFar
 passedBy (agreed ρ) = All
 passedBy (apart k) = Until k
 

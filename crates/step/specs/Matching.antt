@@ -13,8 +13,8 @@ use Rattle.minuska.specs.Satisfaction.{Valuation, Matches}
 use Rattle.minuska.specs.Rule.{isSymbolic, IsConfiguration}
 use Rattle.minuska.specs.Computed.Match.{unbound, tryMatch}
 use Rattle.minuska.specs.Bridge.Place.{Stands, BoundAt, Binds}
-use Rattle.step.specs.declared.passed.Passed.{Passed}
-use Rattle.step.specs.declared.passed.Passed.the-variants.{All}
+use Rattle.step.specs.declared.how_far.HowFar.{HowFar}
+use Rattle.step.specs.declared.how_far.HowFar.the-variants.{All}
 use Rattle.step.specs.declared.matching.LeftTurn.{LeftTurn}
 use Rattle.step.specs.declared.matching.LeftTurn.the-variants.{Same, Bind, Again, Misfit}
 use Rattle.step.specs.Compare.{Comparison, apart, later, compare, comparison, passedBy}
@@ -32,7 +32,7 @@ pub record LeftIn (table : List ℤ) (at end : ℕ) : Type 0 where
 
 -- The answer for a left and a configuration: how far its nodes agree. So it says whether some valuation satisfies the left ("a left fits a configuration
 -- under a valuation"). Of a match the arrays hold its valuation, with end 0 for a variable that the left has not.
-pub record LeftMatched (config : List ℤ) (l g : Term) (starts′ ends′ : List ℕ) (r : Passed) : Type 0 where
+pub record LeftMatched (config : List ℤ) (l g : Term) (starts′ ends′ : List ℕ) (r : HowFar) : Type 0 where
   pub answer : r ≡ passedBy (comparison l g)
   pub claim : (r ≡ All) ↔ ((ρ : Valuation) × Matches ρ (single l) (single g))
   pub binds : (ρ : Valuation) → tryMatch (single l) (single g) unbound ≡ some ρ → Binds config starts′ ends′ ρ
@@ -40,7 +40,7 @@ pub record LeftMatched (config : List ℤ) (l g : Term) (starts′ ends′ : Lis
 
 -- THE CONTRACT, for every left and configuration that stand there. What the arrays held does not matter. After either answer a term of the
 -- configuration stands where an end is not 0; where it is 0 the start keeps.
-pub record MatchContract (table : List ℤ) (at end : ℕ) (config : List ℤ) (starts starts′ ends′ : List ℕ) (r : Passed) : Type 0 where
+pub record MatchContract (table : List ℤ) (at end : ℕ) (config : List ℤ) (starts starts′ ends′ : List ℕ) (r : HowFar) : Type 0 where
   pub each : (l g : Term) → IsLeft table at end l → IsConfiguration config g → LeftMatched config l g starts′ ends′ r
   pub parts : (v : ℕ) → (getD ends′ v 0 ≡ 0 → ⊥) → (t : Term) × BoundAt config (getD starts′ v 0) (getD ends′ v 0) v t
   pub keeps : (v : ℕ) → getD ends′ v 0 ≡ 0 → getD starts′ v 0 ≡ getD starts v 0

@@ -38,7 +38,7 @@ module _ (ws cs : List ℤ) (starts ends : List ℕ) where
     pub is : Rest at end valuation terms words
 
   -- the words vs are the next that are emitted, and the rest goes on from a place further on
-  pub record Leads (at end : ℕ) (ρ : Valuation) (us vs : List ℤ) (next : ℕ) : Type 0 where
+  pub record LeadsOn (at end : ℕ) (ρ : Valuation) (us vs : List ℤ) (next : ℕ) : Type 0 where
     pub later : Forest
     pub words : List ℤ
     pub parted : vs ++ words ≡ us
@@ -48,7 +48,7 @@ module _ (ws cs : List ℤ) (starts ends : List ℕ) where
   -- one item: its words are the next, and the rest goes on behind it
   pub record ItemOf (at end : ℕ) (ρ : Valuation) (us : List ℤ) (r : Evaluated) : Type 0 where
     pub within : Within ws cs (r .value)
-    pub leads : Leads at end ρ us (valueWords ws cs (r .value)) (r .next)
+    pub leads : LeadsOn at end ρ us (valueWords ws cs (r .value)) (r .next)
 
   pub record ItemIs (at end : ℕ) (r : Evaluated) : Type 0 where
     pub is : (ρ : Valuation) (f : Forest) (us : List ℤ) → Rest at end ρ f us → ItemOf at end ρ us r
@@ -57,7 +57,7 @@ module _ (ws cs : List ℤ) (starts ends : List ℕ) where
   pub record SizedOf (at end : ℕ) (ρ : Valuation) (us : List ℤ) (r : Sized) : Type 0 where
     pub first : List ℤ
     pub many : r .words ≡ length first
-    pub leads : Leads at end ρ us first (r .next)
+    pub leads : LeadsOn at end ρ us first (r .next)
 
   pub record SizedIs (at end : ℕ) (r : Sized) : Type 0 where
     pub is : (ρ : Valuation) (f : Forest) (us : List ℤ) → Rest at end ρ f us → SizedOf at end ρ us r

@@ -1,5 +1,5 @@
 // A rule's conditions, one after the other.
-use crate::passed::Passed;
+use crate::how_far::HowFar;
 ghost use Rattle.step.specs.Conditions.{SomeConditions, HoldAllIs};
 
 // Whether all conditions that stand from a place up to another hold.
@@ -10,7 +10,7 @@ pub fn hold_all<'a>(
     end: usize,
     starts: &[usize; 16],
     ends: &[usize; 16],
-) -> Passed
+) -> HowFar
     requires { ⌜ SomeConditions (now table) (now configuration) (now starts) (now ends) at end ⌝ }
     ensures { λ r. ⌜ HoldAllIs (now (table .entry)) (now (configuration .entry)) (now (starts .entry)) (now (ends .entry)) at end r ⌝ }
 {
@@ -19,10 +19,10 @@ pub fn hold_all<'a>(
     while i < end {
         let c = value::condition(table, configuration, i, starts, ends);
         if !c.holds {
-            return Passed::Until(held);
+            return HowFar::Until(held);
         }
         i = c.next;
         held += 1;
     }
-    Passed::All
+    HowFar::All
 }

@@ -1,7 +1,7 @@
 // One step: by a given rule, and by the earliest that applies.
 mod conditions;
+mod how_far;
 mod matching;
-mod passed;
 mod right;
 mod rule;
 

@@ -1,5 +1,5 @@
 // Matching a left against a configuration, in one walk over both.
-use crate::passed::Passed;
+use crate::how_far::HowFar;
 ghost use mathlib.Core.Path.{_≡_};
 ghost use Prim.Native.Nat.{_<_};
 ghost use lib.ListN.{length};
@@ -81,7 +81,7 @@ pub fn match_left(
     configuration: &[i64],
     starts: &mut [usize; 16],
     ends: &mut [usize; 16],
-) -> Passed
+) -> HowFar
     requires { ⌜ LeftIn (now table) at end ⌝ }
     requires { ⌜ Accepted (now configuration) ⌝ }
     ensures { λ r. ⌜ MatchContract (now (table .entry)) at end (now (configuration .entry)) (now (starts .entry)) (now (starts .exit)) (now (ends .exit)) r ⌝ }
@@ -105,9 +105,9 @@ pub fn match_left(
                 j = e;
             }
             LeftTurn::Misfit => {
-                return Passed::Until((i - at) / 2 - 1);
+                return HowFar::Until((i - at) / 2 - 1);
             }
         }
     }
-    Passed::All
+    HowFar::All
 }

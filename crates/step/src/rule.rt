@@ -1,5 +1,5 @@
 // One rule at a configuration, over checked words and the table's index: its left, its conditions, the words of its right.
-use crate::passed::Passed;
+use crate::how_far::HowFar;
 use crate::right::Fit;
 use minuska::Index;
 ghost use mathlib.Core.Path.{_≡_};
@@ -29,10 +29,10 @@ pub fn judge<'a>(
     ensures { λ r. ⌜ JudgeIs (now (table .entry)) (now (configuration .entry)) rule (now (starts .exit)) (now (ends .exit)) r ⌝ }
 {
     match match_rule(table, index, rule, configuration, starts, ends) {
-        Passed::Until(place) => Verdict::Misfit(place),
-        Passed::All => match hold_conditions(table, index, rule, configuration, starts, ends) {
-            Passed::Until(number) => Verdict::Fails(number),
-            Passed::All => Verdict::Applies,
+        HowFar::Until(place) => Verdict::Misfit(place),
+        HowFar::All => match hold_conditions(table, index, rule, configuration, starts, ends) {
+            HowFar::Until(number) => Verdict::Fails(number),
+            HowFar::All => Verdict::Applies,
         },
     }
 }
@@ -56,7 +56,7 @@ pub fn match_rule(
     configuration: &[i64],
     starts: &mut [usize; 16],
     ends: &mut [usize; 16],
-) -> Passed
+) -> HowFar
     requires { ⌜ Indexed (now table) (now index) × Accepted (now configuration) × Names (now table) rule ⌝ }
     ensures { λ r. ⌜ MatchIs (now (table .entry)) (now (configuration .entry)) rule (now (starts .exit)) (now (ends .exit)) r ⌝ }
 {
@@ -72,7 +72,7 @@ pub fn hold_conditions<'a>(
     configuration: &'a [i64],
     starts: &[usize; 16],
     ends: &[usize; 16],
-) -> Passed
+) -> HowFar
     requires { ⌜ Indexed (now table) (now index) × SomeMatched (now table) (now configuration) rule (now starts) (now ends) ⌝ }
     ensures { λ r. ⌜ HoldIs (now (table .entry)) (now (configuration .entry)) rule (now (starts .entry)) (now (ends .entry)) r ⌝ }
 {

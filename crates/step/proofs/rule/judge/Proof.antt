@@ -3,8 +3,8 @@ use mathlib.Core.Path.{_≡_, sym, ap}
 use mathlib.Core.List.{List}
 use Prim.Native.Nat.{ℕ}
 use borrow.Author.Needs.{needs}
-use Rattle.step.specs.declared.passed.Passed.{Passed}
-use Rattle.step.specs.declared.passed.Passed.the-variants.{All}
+use Rattle.step.specs.declared.how_far.HowFar.{HowFar}
+use Rattle.step.specs.declared.how_far.HowFar.the-variants.{All}
 use Rattle.step.specs.declared.rule.Verdict.{Verdict}
 use Rattle.step.specs.Apply.{SomeMatched, HoldIs, verdictHeld, JudgeIs}
 use Rattle.step.proofs.WaysLaw.{way-misfit, some-matched, way-held}
@@ -26,7 +26,7 @@ module _ (m : tie.After-match-rule) where
   matched e =
       some-matched (start .args .table .now) (start .args .configuration .now) (start .args .rule) starts ends (m .match-rule .result) (m .match-rule .ensures) e (start .pre .2) (start .pre .1)
 
-  by-conditions : m .match-rule .result ≡ All → (q : Passed) → HoldIs (start .args .table .now) (start .args .configuration .now) (start .args .rule) starts ends q → (r : Verdict) → r ≡ verdictHeld q → JudgeIs (start .args .table .now) (start .args .configuration .now) (start .args .rule) starts ends r
+  by-conditions : m .match-rule .result ≡ All → (q : HowFar) → HoldIs (start .args .table .now) (start .args .configuration .now) (start .args .rule) starts ends q → (r : Verdict) → r ≡ verdictHeld q → JudgeIs (start .args .table .now) (start .args .configuration .now) (start .args .rule) starts ends r
   by-conditions e =
       way-held (start .args .table .now) (start .args .configuration .now) (start .args .rule) starts ends (m .match-rule .result) (m .match-rule .ensures) e
 

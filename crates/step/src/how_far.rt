@@ -1,5 +1,5 @@
 // How far things that come one after the other agree.
-pub enum Passed {
+pub enum HowFar {
     // all of them
     All,
     // those before the one of this number, from 0, which does not
