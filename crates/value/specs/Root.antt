@@ -10,7 +10,7 @@ use Rattle.minuska.specs.Word.{tagWord, datumWord, okHead}
 use Rattle.value.specs.Value.{IsValue}
 use Rattle.value.specs.declared.builtin.Root.{Root}
 use Rattle.value.specs.declared.Value.{Value}
-use Rattle.value.specs.declared.Value.the-variants.{Computed}
+use Rattle.value.specs.declared.Value.the-variants.{Table, Computed}
 
 -- two words are those of a ground node with this label and so many children
 pub record Head (r : Root) (l : Label) (k : ℕ) : Type 0 where
@@ -30,6 +30,11 @@ pub record ValueIn (table config : List ℤ) (v : Value) : Type 0 where
 
 pub record RootIs (table config : List ℤ) (v : Value) (r : Root) : Type 0 where
   pub is : (t : Term) → IsValue table config v t → Head r (t .label) (termCount (t .children))
+
+-- one node, a literal, stands at a place of the table
+pub record NodeIn (table config : List ℤ) (at : ℕ) : Type 0 where
+  pub term : Term
+  pub is : IsValue table config (Table at (at + 2)) term
 
 -- WHAT A BUILT-IN FUNCTION GIVES, as a value: one node, computed. (`proofs/GivenLaw`: today each gives a leaf.)
 unfoldable pub given : Root → Value

@@ -48,7 +48,7 @@ pub fn root(table: &[i64], configuration: &[i64], v: Value) -> Root
 }
 
 // The node that stands at a place.
-fn root_at(s: &[i64], at: usize) -> Root
+pub fn root_at(s: &[i64], at: usize) -> Root
     requires { ⌜ at + 1 < length (now s) ⌝ }
     ensures { λ r. ⌜ r ≡ rootAt (now (s .entry)) at ⌝ }
 {
