@@ -20,9 +20,10 @@ pub fn leaf(table: &[i64], at: usize, starts: &[usize; 16], ends: &[usize; 16]) 
         let v = term::word(table, at + 1) as usize;
         let start = starts[v];
         let end = ends[v];
+        let next = at + 2;
         return Evaluated {
             value: Value::Configuration(start, end),
-            next: at + 2,
+            next: next,
         };
     }
     let end = term::ground_end(table, at);

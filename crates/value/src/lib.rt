@@ -95,9 +95,10 @@ pub fn condition<'a>(
     let x = first.value;
     if term::word(table, next) < VARIABLE {
         let holds = same::is_node(table, configuration, x, next);
+        let end = next + 2;
         return Tested {
             holds: holds,
-            next: next + 2,
+            next: end,
         };
     }
     let second = evaluate(table, configuration, next, starts, ends);

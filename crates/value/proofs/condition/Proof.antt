@@ -62,8 +62,8 @@ is-node-requires c κs =
     let p = c .before .before .before .pre in
     (record { term = _; is = first (c .before .before) (p .valuation) (p .condition) (p .stands) .is }, record { term = _; is = literal c (p .valuation) (p .condition) (p .stands) .is })
 
-add-t15 : tie.Need-add-t15
-add-t15 c = let h = room (c .before .before .before) in omega arith
+add-end : tie.Need-add-end
+add-end c = let h = room (c .before .before .before) in omega arith
 
 returns : tie.Need-returns
 returns c =
@@ -98,7 +98,7 @@ condition-spec =
     evaluate-requires
     word-requires
     is-node-requires
-    add-t15
+    add-end
     returns
     evaluate-requires-2
     same-requires
