@@ -10,7 +10,7 @@ use lib.Dec.{T, eqb→eq}
 use lib.IntN.{ℤ, pos, natAbs}
 use lib.ListN.{length, drop, getD, length-take}
 use Rattle.minuska.specs.Term.{Label, error, truth, whole, variable, call, symbol, Forest, nil, node, Term, leaf, single, termCount, role, groundAt}
-use Rattle.minuska.specs.Word.{tagWord, datumWord, okHead, encode}
+use Rattle.minuska.specs.Word.{tagWord, okHead, encode}
 use Rattle.minuska.specs.Satisfaction.{Valuation, SideCondition, Holds}
 use Rattle.minuska.specs.Computed.Value.{value, agreeing, agree, holds}
 use Rattle.minuska.specs.Bridge.Place.{part, Decides}

@@ -1,5 +1,5 @@
 -- What is returned means what stands there.
-use mathlib.Core.Path.{_≡_, refl, sym, _∙_, ap, ap₂, subst, subst⁻¹}
+use mathlib.Core.Path.{_≡_, refl, sym, _∙_, ap, subst, subst⁻¹}
 use mathlib.Core.List.{List}
 use Prim.Native.Nat.{ℕ, suc, _+_, _-_, _≤_}
 use native.Mathlib.Omega.{arith}
@@ -9,25 +9,21 @@ use lib.IntN.{ℤ, pos}
 use lib.Signed.{ltZ}
 use lib.ListN.{length, take, drop, getD, length-append}
 use borrow.Author.Tests.{lt-ltb, le-ltb}
-use Rattle.minuska.specs.Term.{Label, Forest, nil, node, Term, single, leaf, termCount, Role, aVariable, aCall, plain, role, isGround}
-use Rattle.minuska.specs.Word.{tagWord, datumWord, ok, encode}
+use Rattle.minuska.specs.Term.{Label, Forest, nil, node, Term, single, termCount, Role, aVariable, aCall, plain, role, isGround}
+use Rattle.minuska.specs.Word.{ok, encode}
 use Rattle.minuska.specs.Function.{argument, interpret}
 use Rattle.minuska.specs.Satisfaction.{Valuation}
 use Rattle.minuska.specs.Bridge.Place.{part, Stands}
-use Rattle.minuska.proofs.Tests.{and-left, and-right}
 use Rattle.minuska.proofs.ValueLaw.{value-iff-evaluates}
-use Rattle.minuska.proofs.KeepLaw.{fine-apply}
-use Rattle.value.specs.Builtin.{labelAt, rootOf, applied}
-use Rattle.value.specs.Root.{Head, given}
+use Rattle.value.specs.Builtin.{rootOf, applied}
+use Rattle.value.specs.Root.{given}
 use Rattle.value.specs.Value.{valueWords, Within, IsValue}
 use Rattle.value.specs.Evaluate.{HasValue, HaveValues, Where, Meant, EvaluateContract, FirstMeant, firstOf, firstTerm, restOf}
 use Rattle.value.specs.declared.Value.{Value}
 use Rattle.value.specs.declared.Value.the-variants.{Table, Configuration, Computed}
 use Rattle.value.specs.declared.Evaluated.{Evaluated}
-use Rattle.value.specs.declared.builtin.Root.{Root}
 use Rattle.value.proofs.GivenLaw.{given-is, given-root}
 use Rattle.value.proofs.ExpressionLaw.{encode-first, VariableHere, CallHere, GroundHere, MoreHere, is-literal, is-more, no-more}
-use Rattle.value.proofs.RootLaw.{label-is}
 
 -- words that stand up to a place are the part up to there
 part-of : (ws : List ℤ) (from to : ℕ) (xs : List ℤ) → Stands ws from xs → to ≡ from + length xs → part ws from to ≡ xs

@@ -1,4 +1,4 @@
-use mathlib.Core.Path.{_≡_, refl, sym, ap, subst, _∙_}
+use mathlib.Core.Path.{_≡_, subst, _∙_}
 use mathlib.Core.Bool.{true}
 use Prim.Native.Nat.{_+_, _≤_}
 use native.Mathlib.Omega.{arith}
@@ -10,7 +10,7 @@ use mir.Val.{SFits}
 use mir.Facts.{toZ-ofZ}
 use denote.Ref.{now}
 use borrow.Author.Needs.{needs}
-use Rattle.minuska.specs.Term.{nil, Term}
+use Rattle.minuska.specs.Term.{nil}
 use Rattle.minuska.specs.Satisfaction.{Valuation, SideCondition}
 use Rattle.value.specs.Evaluate.{HasValue, Meant, ConditionAt}
 use Rattle.value.specs.declared.Value.the-variants.{Table}

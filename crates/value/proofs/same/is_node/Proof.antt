@@ -7,7 +7,7 @@ use borrow.Author.Needs.{needs}
 use mir.Syntax.{w64}
 use mir.Val.{SFits, ofZ}
 use denote.Ref.{now}
-use Rattle.minuska.specs.Term.{Term, single, termCount}
+use Rattle.minuska.specs.Term.{single, termCount}
 use Rattle.minuska.specs.Word.{encode}
 use Rattle.minuska.specs.Bridge.Place.{part, Decides}
 use Rattle.value.specs.Value.{valueWords}
