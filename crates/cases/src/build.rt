@@ -1,5 +1,4 @@
 // Words read from a text, and parts of slices. A place out of range is left alone.
-use value::builtin::Scalar;
 ghost use Prim.Native.Nat.{_≤_};
 
 // The first words of a slice; all, if there are fewer.
@@ -55,10 +54,8 @@ pub fn short(z: i64) -> u16 {
 
 // 0 less a word.
 pub fn negated(z: i64) -> i64 {
-    match value::builtin::minus(0, z) {
-        Scalar::Whole(m) => m,
-        _ => z,
-    }
+    let m = value::builtin::minus(0, z);
+    if m.tag == 2 { m.datum } else { z }
 }
 
 // A number's digits so far, and one more; a number past 64 bits is the largest.

@@ -1,7 +1,6 @@
 // The calls: each prints its name, the answer, and every lent slice whole. Out held 77 before, spare 66, choices 99, work 55.
 use crate::build::at_most;
 use crate::build::number;
-use value::builtin::Scalar;
 
 fn named(name: &[u8]) {
     crate::show::text(name);
@@ -28,29 +27,11 @@ pub fn configuration(name: &[u8], words: &[i64]) {
     crate::show::end();
 }
 
-// A node's two words as an argument.
-fn scalar(tag: i64, datum: i64) -> Scalar {
-    match tag {
-        1 => Scalar::Truth(datum == 1),
-        2 => Scalar::Whole(datum),
-        8 => Scalar::Symbol(crate::build::short(datum)),
-        _ => Scalar::Error,
-    }
-}
-
 // A function's code, and the nodes of three arguments.
-fn applied(a: &[i64; 8]) -> Scalar {
-    value::builtin::apply(
-        number(a[0]),
-        scalar(a[1], a[2]),
-        scalar(a[3], a[4]),
-        scalar(a[5], a[6]),
-    )
-}
-
 pub fn value(name: &[u8], a: &[i64; 8]) {
     named(name);
-    crate::show::scalar(applied(a));
+    let code = number(a[0]);
+    crate::show::value(value::builtin::apply(code, a[1], a[2], a[3], a[4], a[5], a[6]));
     crate::show::end();
 }
 

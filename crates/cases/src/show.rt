@@ -4,7 +4,7 @@ use minuska::Refusal;
 use minuska::ReplayAnswer;
 use minuska::RunAnswer;
 use minuska::StepAnswer;
-use value::builtin::Scalar;
+use value::builtin::Root;
 ghost use Prim.Native.Nat.{_+_, _<_, _≤_};
 ghost use lib.ListN.{length};
 
@@ -28,9 +28,11 @@ pub fn whole(z: i64) {
 
 // The size of a word below 0.
 fn below_zero(z: i64) -> usize {
-    match value::builtin::minus(0, z) {
-        Scalar::Whole(m) => crate::build::number(m),
-        _ => 9223372036854775808,
+    let m = value::builtin::minus(0, z);
+    if m.tag == 2 {
+        crate::build::number(m.datum)
+    } else {
+        9223372036854775808
     }
 }
 
@@ -91,18 +93,18 @@ pub fn replayed(a: ReplayAnswer) {
     }
 }
 
-pub fn scalar(s: Scalar) {
-    match s {
-        Scalar::Error => text(b"error"),
-        Scalar::Truth(x) => {
-            if x {
+// A function's value: error, a truth value or a whole number.
+pub fn value(r: Root) {
+    match r.tag {
+        0 => text(b"error"),
+        1 => {
+            if r.datum == 1 {
                 text(b"true");
             } else {
                 text(b"false");
             }
         }
-        Scalar::Whole(z) => whole(z),
-        Scalar::Symbol(n) => counted(b"symbol ", n as usize),
+        _ => whole(r.datum),
     }
 }
 

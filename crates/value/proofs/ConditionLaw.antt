@@ -1,25 +1,31 @@
 -- A side condition holds exactly if the words of its sides' values are the same.
-use mathlib.Core.Path.{_≡_, refl, sym, _∙_, ap, subst⁻¹}
+use mathlib.Core.Path.{_≡_, refl, sym, _∙_, ap, ap₂, subst⁻¹}
 use mathlib.Core.Bool.{Bool, true, false}
 use mathlib.Core.Logic.{_↔_}
 use mathlib.Core.Option.{Option, some}
-use mathlib.Core.List.{List}
-use Prim.Native.Nat.{ℕ}
+use mathlib.Core.List.{List, [], _++_}
+use Prim.Native.Nat.{ℕ, _+_, _-_, _≤_}
 use native.Mathlib.Omega.{arith}
-use lib.Dec.{T}
-use lib.IntN.{ℤ}
-use Rattle.minuska.specs.Term.{Term, single}
-use Rattle.minuska.specs.Word.{encode}
+use lib.Dec.{T, eqb→eq}
+use lib.IntN.{ℤ, pos, natAbs}
+use lib.ListN.{length, drop, getD, length-take}
+use Rattle.minuska.specs.Term.{Label, error, truth, whole, variable, call, symbol, Forest, nil, node, Term, leaf, single, termCount, role, groundAt}
+use Rattle.minuska.specs.Word.{tagWord, okHead, encode}
 use Rattle.minuska.specs.Satisfaction.{Valuation, SideCondition, Holds}
 use Rattle.minuska.specs.Computed.Value.{value, agreeing, agree, holds}
-use Rattle.minuska.specs.Bridge.Place.{Decides}
+use Rattle.minuska.specs.Bridge.Place.{part, Decides}
 use Rattle.minuska.proofs.Tests.{single-injective}
 use Rattle.minuska.proofs.WordLaw.{encode-injective}
 use Rattle.minuska.proofs.ValueLaw.{agreeing-iff, holds-iff}
+use Rattle.value.specs.Builtin.{labelAt}
+use Rattle.value.specs.Root.{Head}
 use Rattle.value.specs.Value.{valueWords, IsValue}
 use Rattle.value.specs.Evaluate.{HasValue, Meant, ConditionAt, ConditionMeant}
 use Rattle.value.specs.declared.Value.{Value}
 use Rattle.value.specs.declared.Evaluated.{Evaluated}
+use Rattle.value.specs.declared.builtin.Root.{Root}
+use Rattle.value.proofs.ExpressionLaw.{no-terms}
+use Rattle.value.proofs.RootLaw.{label-is}
 
 decides-test : (a b : Bool) (P : Type 0) → Decides a P → T b ↔ P → a ≡ b
 decides-test true true P d i = refl
@@ -52,3 +58,42 @@ module _ (table config : List ℤ) where
           satisfied = subst⁻¹ (λ (x : Bool). T x ↔ Holds ρ c) h (holds-iff ρ c (w .first-has .placed .expressions) (w .second-has .placed .expressions));
           next = omega arith;
         }
+
+-- ---- one node: a value is it where their roots are the same
+no-child : (l : Label) (k : ℕ) → T (okHead l k) → T (groundAt (role l)) → tagWord l k ≡ tagWord l 0 → k ≡ 0
+no-child error k o g e = eqb→eq k 0 o
+no-child (truth b) k o g e = eqb→eq k 0 o
+no-child (whole z) k o g e = eqb→eq k 0 o
+no-child (variable v) k o g e = absurd g
+no-child (call c) k o g e = absurd g
+no-child (symbol s) k o g e = let h : 8 + k ≡ 8 = ap natAbs e in omega arith
+
+leaf-is : (t : Term) → termCount (t .children) ≡ 0 → leaf (t .label) ≡ t
+leaf-is t e = ap (λ (f : Forest). record { label = t .label; children = f }) (sym (no-terms (t .children) e))
+
+module _ (a b : Root) (s t : Term) (h : Head a (s .label) (termCount (s .children))) (k : Head b (t .label) (termCount (t .children))) (n : termCount (t .children) ≡ 0) where
+  same-roots : a .tag ≡ b .tag → a .datum ≡ b .datum → s ≡ t
+  same-roots p q =
+      let l : s .label ≡ t .label = sym (label-is a _ _ h) ∙ (ap₂ labelAt p q ∙ label-is b _ _ k) in
+      let e : tagWord (s .label) (termCount (s .children)) ≡ tagWord (s .label) 0 =
+      sym (h .tag) ∙ (p ∙ (k .tag ∙ ap₂ tagWord (sym l) n)) in
+      let m = no-child (s .label) (termCount (s .children)) (h .good) (h .ground) e in
+      sym (leaf-is s m) ∙ (ap leaf l ∙ leaf-is t n)
+
+  pub roots-decide : (c : Bool) → Decides c ((a .tag ≡ b .tag) × (a .datum ≡ b .datum)) → Decides c (encode (single s) ≡ encode (single t))
+  roots-decide c d =
+      record {
+        yes = λ e. let r = d .yes e in ap (λ (x : Term). encode (single x)) (same-roots (r .0) (r .1));
+        no = λ e f. d .no e (h .tag ∙ (ap (λ (ws : List ℤ). getD ws 0 (pos 0)) f ∙ sym (k .tag)), h .datum ∙ (ap (λ (ws : List ℤ). getD ws 1 (pos 0)) f ∙ sym (k .datum)));
+      }
+
+-- a part of two words is one node
+pub one-node : (ws : List ℤ) (at : ℕ) (t : Term) → part ws at (at + 2) ≡ encode (single t) → termCount (t .children) ≡ 0
+one-node ws at t e =
+    let h : length (part ws at (at + 2)) ≡ length (encode (single t)) = ap length e in
+    let l = length-take (at + 2 - at) (drop at ws) in
+    few (t .children) (omega arith)
+  where
+    few : (cs : Forest) → length (encode cs ++ []) ≤ 0 → termCount cs ≡ 0
+    few nil h = refl
+    few (node l cs ss) h = absurd (let z : ⊥ = omega arith in z)

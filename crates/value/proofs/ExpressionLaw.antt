@@ -3,14 +3,16 @@ use mathlib.Core.Path.{_≡_, refl, sym, _∙_, ap, subst, subst⁻¹}
 use mathlib.Core.Bool.{true, false, _&&_}
 use mathlib.Core.Option.{Option, some, Option·some-injective}
 use mathlib.Core.List.{List, [], _∷_, _++_, append-nil}
-use Prim.Native.Nat.{ℕ, suc, _+_, _<_}
+use Prim.Native.Nat.{ℕ, suc, _+_, _≤_, _<_}
 use native.Mathlib.Omega.{arith}
 use lib.Dec.{T, eqb, ltb, eqb→eq, ltb→lt, lt→ltb}
 use lib.IntN.{ℤ, pos}
+use lib.Signed.{ltZ}
+use borrow.Author.Tests.{ltb-true}
 use lib.ListN.{length, getD, length-append}
 use Rattle.minuska.specs.Basics.{_>>=_}
 use Rattle.minuska.specs.Term.{Label, error, truth, whole, variable, call, symbol, Forest, nil, node, Term, cons, single, termCount, Role, aVariable, aCall, plain, role, groundAt, isGround}
-use Rattle.minuska.specs.Word.{tagWord, datumWord, encode}
+use Rattle.minuska.specs.Word.{tagWord, datumWord, okNode, encode}
 use Rattle.minuska.specs.Function.{functions, functionAt, interpret}
 use Rattle.minuska.specs.Rule.{expressionAt, isExpression}
 use Rattle.minuska.specs.Satisfaction.{Valuation}
@@ -29,7 +31,7 @@ encode-first l cs ss = ap (λ (x : List ℤ). tagWord l (termCount cs) ∷ datum
 pub encode-node : (l : Label) (cs : Forest) → encode (node l cs nil) ≡ (tagWord l (termCount cs) ∷ datumWord l ∷ []) ++ encode cs
 encode-node l cs = ap (λ (x : List ℤ). tagWord l (termCount cs) ∷ datumWord l ∷ x) (append-nil (encode cs))
 
-no-terms : (f : Forest) → termCount f ≡ 0 → f ≡ nil
+pub no-terms : (f : Forest) → termCount f ≡ 0 → f ≡ nil
 no-terms nil e = refl
 no-terms (node l cs ss) e = absurd (let h : ⊥ = omega arith in h)
 
@@ -160,6 +162,25 @@ module _ (table config : List ℤ) (starts ends : List ℕ) (at : ℕ) (ρ : Val
       go (variable-is h x) = absurd (j h)
       go (call-is h x) = absurd (k h)
       go (ground-is n h a b x) = x
+
+  -- a tag below a variable's: a literal without children
+  pub is-literal : (e t : Term) → HasValue table config starts ends at ρ e t → ltZ (getD table at (pos 0)) (pos 3) ≡ true → GroundHere e t × (length (encode (single e)) ≡ 2)
+  is-literal e t w h =
+      (is-ground e t w (λ p. low 3 p (omega arith)) (λ p. low 4 p (omega arith)), go (e .label) (e .children) (okay (e .label) (e .children) nil (w .placed .good) .allowed) (head-words table at (e .label) (e .children) nil (w .placed .stands) .first))
+    where
+      low : (n : ℕ) → getD table at (pos 0) ≡ pos n → 3 ≤ n → ⊥
+      low n p l = let k : n < 3 = ltb-true n 3 (subst (λ (z : ℤ). ltZ z (pos 3) ≡ true) p h) in omega arith
+
+      two : (l : Label) (cs : Forest) → termCount cs ≡ 0 → length (encode (node l cs nil)) ≡ 2
+      two l cs n = ap (λ (f : Forest). length (encode (node l f nil))) (no-terms cs n)
+
+      go : (l : Label) (cs : Forest) → T (okNode l cs) → getD table at (pos 0) ≡ tagWord l (termCount cs) → length (encode (node l cs nil)) ≡ 2
+      go error cs o p = two error cs (eqb→eq (termCount cs) 0 o)
+      go (truth b) cs o p = two (truth b) cs (eqb→eq (termCount cs) 0 o)
+      go (whole z) cs o p = two (whole z) cs (eqb→eq (termCount cs) 0 o)
+      go (variable v) cs o p = absurd (low 3 p (omega arith))
+      go (call c) cs o p = absurd (low 4 p (omega arith))
+      go (symbol s) cs o p = absurd (low (8 + termCount cs) p (omega arith))
 
   -- ---- a list of expressions that is not empty: the first, and the rest behind it
   pub record MoreHere (es xs : Forest) : Type 0 where

@@ -1,5 +1,5 @@
 -- WHAT A BUILT-IN FUNCTION GIVES is its value: today each gives one node (`InterpretLaw`), and nothing else says so.
-use mathlib.Core.Path.{_≡_, refl, sym, _∙_, ap, subst}
+use mathlib.Core.Path.{_≡_, sym, ap}
 use mathlib.Core.List.{List}
 use Prim.Native.Nat.{ℕ}
 use lib.IntN.{ℤ}

@@ -1,31 +1,29 @@
 -- What is returned means what stands there.
-use mathlib.Core.Path.{_≡_, refl, sym, _∙_, ap, ap₂, subst, subst⁻¹}
+use mathlib.Core.Path.{_≡_, refl, sym, _∙_, ap, subst, subst⁻¹}
 use mathlib.Core.List.{List}
 use Prim.Native.Nat.{ℕ, suc, _+_, _-_, _≤_}
 use native.Mathlib.Omega.{arith}
 use lib.Dec.{T, ltb, leb·suc-suc}
+use mathlib.Core.Bool.{true}
 use lib.IntN.{ℤ, pos}
+use lib.Signed.{ltZ}
 use lib.ListN.{length, take, drop, getD, length-append}
 use borrow.Author.Tests.{lt-ltb, le-ltb}
-use Rattle.minuska.specs.Term.{Label, Forest, nil, node, Term, single, leaf, termCount, Role, aVariable, aCall, plain, role, isGround}
-use Rattle.minuska.specs.Word.{tagWord, datumWord, ok, encode}
+use Rattle.minuska.specs.Term.{Label, Forest, nil, node, Term, single, termCount, Role, aVariable, aCall, plain, role, isGround}
+use Rattle.minuska.specs.Word.{ok, encode}
 use Rattle.minuska.specs.Function.{argument, interpret}
 use Rattle.minuska.specs.Satisfaction.{Valuation}
 use Rattle.minuska.specs.Bridge.Place.{part, Stands}
-use Rattle.minuska.proofs.Tests.{and-left, and-right}
 use Rattle.minuska.proofs.ValueLaw.{value-iff-evaluates}
-use Rattle.minuska.proofs.KeepLaw.{fine-apply}
-use Rattle.value.specs.Builtin.{labelAt, rootOf, applied}
-use Rattle.value.specs.Root.{Head, given}
+use Rattle.value.specs.Builtin.{rootOf, applied}
+use Rattle.value.specs.Root.{given}
 use Rattle.value.specs.Value.{valueWords, Within, IsValue}
 use Rattle.value.specs.Evaluate.{HasValue, HaveValues, Where, Meant, EvaluateContract, FirstMeant, firstOf, firstTerm, restOf}
 use Rattle.value.specs.declared.Value.{Value}
 use Rattle.value.specs.declared.Value.the-variants.{Table, Configuration, Computed}
 use Rattle.value.specs.declared.Evaluated.{Evaluated}
-use Rattle.value.specs.declared.builtin.Root.{Root}
 use Rattle.value.proofs.GivenLaw.{given-is, given-root}
-use Rattle.value.proofs.ExpressionLaw.{encode-first, VariableHere, CallHere, GroundHere, MoreHere, is-more, no-more}
-use Rattle.value.proofs.RootLaw.{label-is}
+use Rattle.value.proofs.ExpressionLaw.{encode-first, VariableHere, CallHere, GroundHere, MoreHere, is-literal, is-more, no-more}
 
 -- words that stand up to a place are the part up to there
 part-of : (ws : List ℤ) (from to : ℕ) (xs : List ℤ) → Stands ws from xs → to ≡ from + length xs → part ws from to ≡ xs
@@ -101,6 +99,10 @@ module _ (table config : List ℤ) where
           place = placed e t (record { value = Table at r; next = r }) plain (g .role-is) refl;
           next = q;
         }
+
+    -- a literal without children
+    pub literal-meant : (e t : Term) → HasValue table config starts ends at ρ e t → ltZ (getD table at (pos 0)) (pos 3) ≡ true → Meant table config starts ends at e t (record { value = Table at (at + 2); next = at + 2 })
+    literal-meant e t w h = let g = is-literal table config starts ends at ρ e t w h in ground-meant e t w (g .0) (at + 2) (ap (λ (n : ℕ). at + n) (sym (g .1)))
 
     -- ---- a call: its value is what its function gives
     pub call-meant : (e t : Term) (k : CallHere table config starts ends at ρ e t) (r : Evaluated) → r .value ≡ given (rootOf (applied (k .code) (argument 0 (k .terms)) (argument 1 (k .terms)) (argument 2 (k .terms)))) → r .next ≡ at + length (encode (single e)) → Meant table config starts ends at e t r

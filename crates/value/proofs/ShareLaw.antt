@@ -1,11 +1,11 @@
 -- z.share within its ranges: the product and the quotient fit a word, and the divisor is not 0.
 use mathlib.Core.Path.{_≡_, sym, refl, subst}
 use mathlib.Core.Bool.{true, false, _&&_}
-use Prim.Native.Nat.{ℕ, zero, suc, _*_, _/_, _≤_, _<_}
-use native.Mathlib.Nat.{mul-le-mul, div-le-self}
+use Prim.Native.Nat.{ℕ, suc, _*_, _≤_, _<_}
+use native.Mathlib.Nat.{mul-le-mul}
 use native.Mathlib.Omega.{arith}
-use lib.IntN.{ℤ, pos, negsuc, negℤ, natAbs, _*ℤ_}
-use lib.Signed.{mag, leZ, ltZ, quotZ}
+use lib.IntN.{ℤ, pos, negsuc, natAbs, _*ℤ_}
+use lib.Signed.{leZ, ltZ, quotZ}
 use lib.Dec.{T, leb, leb→le}
 use borrow.Author.Tests.{ltb-true, ltb-false, lt-leb, le-leb}
 use mir.Syntax.{w64}

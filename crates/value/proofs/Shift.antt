@@ -10,8 +10,8 @@ use lib.Dec.{T, ltb, leb, eqb}
 use borrow.Author.Tests.{ltb-true, ltb-false, le-leb, lt-leb, eq-eqb, ne-eqb, eqb-true, eqb-false}
 use Rattle.minuska.specs.Basics.{sameWhole}
 use mir.Syntax.{Width, w64}
-use mir.Val.{Fits, toZ, ofZ}
-use mir.Facts.{toZ-pos}
+use mir.Val.{Fits, SFits, toZ, ofZ}
+use mir.Facts.{toZ-pos, toZ-ofZ}
 
 -- the number, moved up
 unfoldable pub up : ℤ → ℕ
@@ -122,6 +122,10 @@ pub up-lt : (a : ℤ) → mag a < 2 ^ 63 → up a < 2 ^ 64
 unfolding up
 up-lt (pos a) f = omega arith
 up-lt (negsuc a) f = omega arith
+
+-- two numbers with the same bits
+pub same-bits : (x y : ℤ) → SFits w64 x → SFits w64 y → ofZ w64 x ≡ ofZ w64 y → x ≡ y
+same-bits x y f g e = sym (toZ-ofZ f) ∙ (ap (toZ w64) e ∙ toZ-ofZ g)
 
 -- a signed number whose bits are a numeral
 pub lit-pos : (z : ℤ) (k : ℕ) → mag z < 2 ^ 63 → k < 2 ^ 63 → ofZ w64 z ≡ k → z ≡ pos k

@@ -16,8 +16,7 @@ use Rattle.minuska.specs.Rule.{isExpression}
 use Rattle.minuska.specs.Satisfaction.{Valuation, SideCondition, Evaluates, Holds}
 use Rattle.minuska.specs.Computed.Value.{value, values, holds}
 use Rattle.minuska.specs.Bridge.Place.{Stands, Binds}
-use Rattle.value.specs.Builtin.{rootOf}
-use Rattle.value.specs.Root.{given}
+use Rattle.value.specs.Root.{Given}
 use Rattle.value.specs.Value.{valueWords, IsValue}
 use Rattle.value.specs.declared.Value.the-variants.{Table, Configuration}
 use Rattle.value.specs.declared.Evaluated.{Evaluated}
@@ -58,7 +57,7 @@ module _ (table config : List ℤ) (starts ends : List ℕ) (at : ℕ) where
   -- where the value is: a variable's part of the configuration, a literal's part of the table; a call's as its function gives it
   abbrev pub Where : Role → Term → Evaluated → Type 0
   Where (aVariable v) t r = r .value ≡ Configuration (getD starts v 0) (getD ends v 0)
-  Where (aCall c) t r = r .value ≡ given (rootOf (t .label))
+  Where (aCall c) t r = Given t (r .value)
   Where plain t r = r .value ≡ Table at (r .next)
 
   pub record Meant (e t : Term) (r : Evaluated) : Type 0 where
@@ -70,7 +69,7 @@ module _ (table config : List ℤ) (starts ends : List ℕ) (at : ℕ) where
     pub meant : (ρ : Valuation) (e t : Term) → HasValue ρ e t → Meant e t r
     pub satisfied : (ρ : Valuation) (e t : Term) → Placed ρ (single e) → Evaluates ρ (single e) (single t) → valueWords table config (r .value) ≡ encode (single t)
 
-  -- a call, which a function's value stands for; and what is none: of any configuration, since its value is read from the arrays alone
+  -- A CALL
   pub record CallIn : Type 0 where
     pub expression : ExpressionIn
     pub tag : getD table at (pos 0) ≡ pos 4

@@ -20,9 +20,10 @@ pub fn leaf(table: &[i64], at: usize, starts: &[usize; 16], ends: &[usize; 16]) 
         let v = term::word(table, at + 1) as usize;
         let start = starts[v];
         let end = ends[v];
+        let next = at + 2;
         return Evaluated {
             value: Value::Configuration(start, end),
-            next: at + 2,
+            next: next,
         };
     }
     let end = term::ground_end(table, at);
@@ -48,7 +49,7 @@ pub fn root(table: &[i64], configuration: &[i64], v: Value) -> Root
 }
 
 // The node that stands at a place.
-fn root_at(s: &[i64], at: usize) -> Root
+pub fn root_at(s: &[i64], at: usize) -> Root
     requires { ⌜ at + 1 < length (now s) ⌝ }
     ensures { λ r. ⌜ r ≡ rootAt (now (s .entry)) at ⌝ }
 {

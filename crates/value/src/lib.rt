@@ -78,7 +78,8 @@ pub fn size(v: Value) -> usize
     }
 }
 
-// Whether the side condition that stands at a place, two expressions one behind the other, holds.
+// Whether the side condition that stands at a place, two expressions one behind the other, holds. A second side that is a literal without children is compared
+// with the first's root.
 pub fn condition<'a>(
     table: &'a [i64],
     configuration: &'a [i64],
@@ -90,8 +91,17 @@ pub fn condition<'a>(
     ensures { λ r. ⌜ ConditionContract (now (table .entry)) (now (configuration .entry)) (now (starts .entry)) (now (ends .entry)) at r ⌝ }
 {
     let first = evaluate(table, configuration, at, starts, ends);
-    let second = evaluate(table, configuration, first.next, starts, ends);
+    let next = first.next;
     let x = first.value;
+    if term::word(table, next) < VARIABLE {
+        let holds = same::is_node(table, configuration, x, next);
+        let end = next + 2;
+        return Tested {
+            holds: holds,
+            next: end,
+        };
+    }
+    let second = evaluate(table, configuration, next, starts, ends);
     let y = second.value;
     let holds = same::same(table, configuration, x, y);
     Tested {

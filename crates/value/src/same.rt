@@ -1,9 +1,13 @@
 // Whether two values have the same words.
 use crate::Value;
+use crate::leaf::root;
+use crate::leaf::root_at;
 use crate::part;
 ghost use mathlib.Core.Path.{_≡_};
 ghost use Rattle.minuska.specs.Bridge.Place.{Decides};
+ghost use Prim.Native.Nat.{_+_};
 ghost use Rattle.value.specs.Value.{valueWords, ownWords, Within};
+ghost use Rattle.value.specs.Root.{ValueIn, NodeIn};
 
 // Whether two values have the same words: no copy of a part is made.
 pub fn same<'a>(table: &'a [i64], configuration: &'a [i64], a: Value, b: Value) -> bool
@@ -37,4 +41,17 @@ fn words_of<'a>(table: &'a [i64], configuration: &'a [i64], own: &'a [i64], v: V
         Value::Computed(_, _) => own,
         _ => part(table, configuration, v),
     }
+}
+
+// Whether a value is the one node that stands at a place of the table: their roots are compared.
+pub fn is_node(table: &[i64], configuration: &[i64], v: Value, at: usize) -> bool
+    requires { ⌜ ValueIn (now table) (now configuration) v × NodeIn (now table) (now configuration) at ⌝ }
+    ensures { λ r. ⌜ Decides r (valueWords (now (table .entry)) (now (configuration .entry)) v ≡ valueWords (now (table .entry)) (now (configuration .entry)) (Value.Table at (at + 2))) ⌝ }
+{
+    let a = root(table, configuration, v);
+    let b = root_at(table, at);
+    if a.tag != b.tag {
+        return false;
+    }
+    a.datum == b.datum
 }

@@ -1,5 +1,5 @@
 use mathlib.Core.Path.{ap, _∙_}
-use Rattle.value.specs.Builtin.{labelAt, rootOf, applied}
+use Rattle.value.specs.Builtin.{rootOf, applied}
 use Rattle.value.proofs.BuiltinLaw.{is-truth, no-truth, neg-other}
 use Rattle.value.proofs.builtin.neg.Statement.{statement}
 use Rattle.value.proofs.builtin.neg.Tie as tie

@@ -1,6 +1,6 @@
 use mathlib.Core.Path.{_∙_}
 use mir.Facts.{toZ-ofZ}
-use Rattle.value.specs.Builtin.{labelAt, rootOf, applied}
+use Rattle.value.specs.Builtin.{applied}
 use Rattle.value.proofs.BuiltinLaw.{is-symbol, no-symbol}
 use Rattle.value.proofs.builtin.same_symbol.Statement.{statement}
 use Rattle.value.proofs.builtin.same_symbol.Tie as tie

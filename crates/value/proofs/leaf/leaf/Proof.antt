@@ -75,8 +75,8 @@ mul-end c = let h = the-index (c .before) in omega arith
 element-copy-out-end : tie.Need-element-copy-out-end
 element-copy-out-end c = the-index (c .before)
 
-add-t12 : tie.Need-add-t12
-add-t12 c = let h = room (c .before .before .before .before .before) in omega arith
+add-next : tie.Need-add-next
+add-next c = let h = room (c .before .before .before .before .before) in omega arith
 
 returns : tie.Need-returns
 returns c =
@@ -114,7 +114,7 @@ leaf-spec =
     element-copy-out-start
     mul-end
     element-copy-out-end
-    add-t12
+    add-next
     returns
     ground-end-requires
     returns-2)

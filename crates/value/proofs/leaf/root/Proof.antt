@@ -1,6 +1,5 @@
 use mathlib.Core.Path.{_≡_, subst, subst⁻¹}
-use mathlib.Core.List.{List, [], _∷_}
-use lib.IntN.{ℤ}
+use mathlib.Core.List.{[], _∷_}
 use mir.Syntax.{w64}
 use mir.Val.{SFits}
 use mir.Facts.{toZ-ofZ}
@@ -8,7 +7,6 @@ use denote.Ref.{now}
 use borrow.Author.Needs.{needs}
 use Rattle.minuska.specs.Term.{Term, single, termCount}
 use Rattle.minuska.specs.Word.{encode}
-use Rattle.minuska.specs.Bridge.Place.{part}
 use Rattle.value.specs.Value.{valueWords, IsValue}
 use Rattle.value.specs.Root.{Head}
 use Rattle.value.specs.declared.Value.{Value}
