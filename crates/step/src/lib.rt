@@ -20,11 +20,6 @@ ghost use Rattle.step.specs.Accept.{AcceptContract};
 ghost use Rattle.step.specs.Apply.{SomeMatched, Instantiated};
 ghost use Rattle.step.specs.Among.{AmongIs};
 
-// Tags of nodes.
-const VARIABLE: i64 = 3;
-
-const CALL: i64 = 4;
-
 // The step by one given rule, of checked words.
 pub fn apply_rule<'a>(
     table: &'a [i64],

@@ -34,7 +34,7 @@ fn turn_at(
 {
     let t = term::word(table, i);
     let d = term::word(table, i + 1);
-    if t != crate::VARIABLE {
+    if t != term::VARIABLE {
         if t != term::word(configuration, j) {
             return LeftTurn::Misfit;
         }

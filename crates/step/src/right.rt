@@ -16,7 +16,7 @@ pub fn piece(table: &[i64], at: usize, starts: &[usize; 16], ends: &[usize; 16])
     requires { ⌜ SomePiece (now table) (now starts) (now ends) at ⌝ }
     ensures { λ r. ⌜ PieceIs (now (table .entry)) (now (starts .entry)) (now (ends .entry)) at r ⌝ }
 {
-    if term::word(table, at) == crate::VARIABLE {
+    if term::word(table, at) == term::VARIABLE {
         let v = term::word(table, at + 1) as usize;
         let from = starts[v];
         let to = ends[v];
@@ -43,7 +43,7 @@ pub fn item(
     requires { ⌜ SomeRest (now table) (now configuration) (now starts) (now ends) at end × (at < end) ⌝ }
     ensures { λ r. ⌜ ItemIs (now (table .entry)) (now (configuration .entry)) (now (starts .entry)) (now (ends .entry)) at end r ⌝ }
 {
-    if term::word(table, at) == crate::CALL {
+    if term::word(table, at) == term::CALL {
         return value::evaluate(table, configuration, at, starts, ends);
     }
     piece(table, at, starts, ends)
@@ -60,7 +60,7 @@ fn gives_one_node(table: &[i64], at: usize) -> bool
     requires { ⌜ at < length (now table) ⌝ }
     ensures { λ r. ⌜ OneNodeIs (now (table .entry)) at r ⌝ }
 {
-    if term::word(table, at) == crate::CALL {
+    if term::word(table, at) == term::CALL {
         return true;
     }
     false

@@ -1,4 +1,7 @@
 // The built-in functions, on the roots of their arguments: two words each, tag and datum.
+use term::SYMBOL;
+use term::TRUTH;
+use term::WHOLE;
 ghost use mathlib.Core.Path.{_≡_};
 ghost use mathlib.Core.Bool.{true};
 ghost use Prim.Native.Nat.{_≤_};
@@ -32,13 +35,6 @@ pub fn apply(code: usize, a: i64, x: i64, b: i64, y: i64, c: i64, z: i64) -> Roo
         _ => an_error(),
     }
 }
-
-// The tags of truth values and of whole numbers, and the least of a symbol.
-const TRUTH: i64 = 1;
-
-const WHOLE: i64 = 2;
-
-const SYMBOL: i64 = 8;
 
 // The nodes that functions give: error, a truth value, a whole number.
 pub fn an_error() -> Root

@@ -1,11 +1,11 @@
 // An expression's value needs its argument list, and an argument list its expressions: two functions that call each other.
-use crate::CALL;
 use crate::Evaluated;
 use crate::Value;
 use crate::builtin::apply;
 use crate::leaf::given;
 use crate::leaf::leaf;
 use crate::leaf::root;
+use term::CALL;
 ghost use Rattle.value.specs.Evaluate.{CallIn, EvaluateContract, ArgumentsIn, ArgumentsContract};
 
 // The value of a call, from the roots of its arguments: three at most, one behind the other.

@@ -1,8 +1,8 @@
 // Values that need no recursion: a variable's and a literal's, what a built-in function gives, and a value's root.
 use crate::Evaluated;
-use crate::VARIABLE;
 use crate::Value;
 use crate::builtin::Root;
+use term::VARIABLE;
 ghost use mathlib.Core.Path.{_≡_};
 ghost use Prim.Native.Nat.{_+_, _<_};
 ghost use lib.ListN.{length};

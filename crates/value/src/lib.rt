@@ -1,6 +1,8 @@
 // The value of an expression over a lent table and a lent configuration, and a side condition.
 use expression::expression;
 use leaf::leaf;
+use term::CALL;
+use term::VARIABLE;
 ghost use mathlib.Core.Path.{_≡_};
 ghost use Prim.Native.Nat.{_+_, _≤_};
 ghost use lib.ListN.{length};
@@ -12,11 +14,6 @@ pub mod builtin; // the fifteen functions
 mod expression; // a call's value and its argument list
 mod leaf; // values that need no recursion
 mod same; // whether two values are the same
-
-// The tags of the nodes that are worth another term than themselves.
-const VARIABLE: i64 = 3;
-
-const CALL: i64 = 4;
 
 // Where a value is: a part of the table or of the configuration, from a place up to another; or two words, tag and datum, that were computed.
 pub enum Value {
