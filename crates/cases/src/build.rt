@@ -93,6 +93,18 @@ struct Reading {
     started: bool,
 }
 
+// Between two words.
+fn behind(count: usize, start: usize, total: usize, minus: bool) -> Reading {
+    Reading {
+        count,
+        start,
+        total,
+        size: 0,
+        minus,
+        started: false,
+    }
+}
+
 fn is_digit(byte: u8) -> bool {
     if byte < b'0' {
         return false;
@@ -139,46 +151,18 @@ fn with_byte(r: Reading, byte: u8, words: &mut [i64]) -> Reading {
         };
     }
     if byte == b'x' {
-        return Reading {
-            count: r.count,
-            start: r.count,
-            total: r.size,
-            size: 0,
-            minus: false,
-            started: false,
-        };
+        return behind(r.count, r.count, r.size, false);
     }
     let end = flushed(r, words);
     if byte == b')' {
-        return Reading {
-            count: repeat(words, r.start, end, r.total),
-            start: 0,
-            total: 0,
-            size: 0,
-            minus: false,
-            started: false,
-        };
+        return behind(repeat(words, r.start, end, r.total), 0, 0, false);
     }
-    Reading {
-        count: end,
-        start: r.start,
-        total: r.total,
-        size: 0,
-        minus: byte == b'-',
-        started: false,
-    }
+    behind(end, r.start, r.total, byte == b'-')
 }
 
 // The words of a text, parted by other bytes, its groups written out, at the start of a slice; and how many.
 pub fn words(text: &[u8], words: &mut [i64]) -> usize {
-    let mut r = Reading {
-        count: 0,
-        start: 0,
-        total: 0,
-        size: 0,
-        minus: false,
-        started: false,
-    };
+    let mut r = behind(0, 0, 0, false);
     let mut i = 0;
     while i < text.len() {
         r = with_byte(r, text[i], words);

@@ -41,7 +41,7 @@ fn keep_log(numbers: &[u8], kept: Kept, log: &mut [u16]) -> Kept {
     }
 }
 
-// A call: the numbers of its line are its other arguments. A line with another key, as a comment's, says nothing.
+// A call: the numbers of its line are its other arguments.
 fn call<'a>(
     key: u8,
     name: &[u8],
@@ -52,15 +52,17 @@ fn call<'a>(
 ) {
     let mut a = [0i64; 8];
     crate::build::words(numbers, &mut a);
+    crate::show::named(name);
     match key {
-        b'v' => crate::call::value(name, &a),
-        b'a' => crate::call::part(name, configuration, &a),
-        b's' => crate::call::step(name, table, configuration, &a),
-        b'b' => crate::call::rule(name, table, configuration, &a),
-        b'r' => crate::call::run(name, table, configuration, &a),
-        b'p' => crate::call::replay(name, table, configuration, log, &a),
+        b'v' => crate::call::value(&a),
+        b'a' => crate::call::part(configuration, &a),
+        b's' => crate::call::step(table, configuration, &a),
+        b'b' => crate::call::rule(table, configuration, &a),
+        b'r' => crate::call::run(table, configuration, &a),
+        b'p' => crate::call::replay(table, configuration, log, &a),
         _ => {}
     }
+    crate::show::end();
 }
 
 // No key has a digit, a minus or an x, so that the numbers of a line may be read from its start.
@@ -77,6 +79,7 @@ fn said(
         b't' => keep_table(name, numbers, kept, table),
         b'c' => keep_configuration(name, numbers, kept, configuration),
         b'l' => keep_log(numbers, kept, log),
+        b'#' => kept,
         _ => {
             call(
                 key,

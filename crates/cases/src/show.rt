@@ -40,16 +40,44 @@ pub fn end() {
     text(b"\n");
 }
 
+fn gap() {
+    text(b" ");
+}
+
+pub fn named(name: &[u8]) {
+    text(name);
+    text(b": ");
+}
+
 fn refusal(r: Refusal) {
     text(b"refused ");
     io::print_decimal(1, minuska::number(r));
 }
 
-pub fn check(c: Check) {
+fn check(c: Check) {
     match c {
         Check::Good => text(b"good"),
         Check::Refused(r) => refusal(r),
     }
+}
+
+// A check of what has a name.
+pub fn checked(what: &[u8], name: &[u8], c: Check) {
+    if name.len() == 0 {
+        return;
+    }
+    text(what);
+    named(name);
+    check(c);
+    end();
+}
+
+fn numbers(rule: usize, action: u16, nodes: usize) {
+    number(rule);
+    gap();
+    number(action as usize);
+    gap();
+    number(nodes);
 }
 
 pub fn stepped(a: StepAnswer) {
@@ -60,11 +88,7 @@ pub fn stepped(a: StepAnswer) {
             nodes,
         } => {
             text(b"stepped ");
-            number(rule);
-            text(b" ");
-            number(action as usize);
-            text(b" ");
-            number(nodes);
+            numbers(rule, action, nodes);
         }
         StepAnswer::Stuck => text(b"stuck"),
         StepAnswer::Refused(r) => refusal(r),
@@ -93,17 +117,18 @@ pub fn replayed(a: ReplayAnswer) {
     }
 }
 
+fn truth(x: bool) {
+    if x {
+        return text(b"true");
+    }
+    text(b"false");
+}
+
 // A function's value: error, a truth value or a whole number.
 pub fn value(r: Root) {
     match r.tag {
         0 => text(b"error"),
-        1 => {
-            if r.datum == 1 {
-                text(b"true");
-            } else {
-                text(b"false");
-            }
-        }
+        1 => truth(r.datum == 1),
         _ => whole(r.datum),
     }
 }
@@ -126,10 +151,10 @@ fn stretch(words: &[i64], at: usize) -> usize
 
 // A group of equal words.
 fn group(v: i64, n: usize) {
-    text(b" ");
+    gap();
     whole(v);
     if n == 2 {
-        text(b" ");
+        gap();
         whole(v);
     }
     if 2 < n {
@@ -139,7 +164,7 @@ fn group(v: i64, n: usize) {
 }
 
 // A slice, whole.
-pub fn slice(name: &[u8], words: &[i64]) {
+fn slice(name: &[u8], words: &[i64]) {
     text(name);
     let mut i = 0;
     while i < words.len() {
@@ -147,6 +172,24 @@ pub fn slice(name: &[u8], words: &[i64]) {
         group(term::word(words, i), n);
         i += n;
     }
+}
+
+pub fn out(words: &[i64]) {
+    slice(b"; out", words);
+}
+
+pub fn spare(words: &[i64]) {
+    slice(b"; spare", words);
+}
+
+pub fn work(words: &[i64]) {
+    slice(b"; work", words);
+}
+
+// A part's length, and its first words.
+pub fn part(length: usize, first: &[i64]) {
+    counted(b"words ", length);
+    slice(b";", first);
 }
 
 fn wide(x: u16) -> i64 {
@@ -170,9 +213,9 @@ fn widen(from: &[u16], to: &mut [i64]) -> usize {
     next
 }
 
-// A slice of choices, whole; none here has more than 4,200.
-pub fn choices(name: &[u8], numbers: &[u16]) {
+// Choices, whole; none here are more than 4,200.
+pub fn choices(numbers: &[u16]) {
     let mut room = [0i64; 4200];
     let n = widen(numbers, &mut room);
-    slice(name, crate::build::front(&room, n));
+    slice(b"; picks", crate::build::front(&room, n));
 }

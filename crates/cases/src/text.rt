@@ -22,10 +22,10 @@ pub fn find(text: &[u8], byte: u8) -> usize {
     bytes::scan::find(text, 0, text.len(), byte)
 }
 
-// The first byte; 0 of none.
+// The first byte; an empty line counts as a comment.
 pub fn first(text: &[u8]) -> u8 {
     if text.len() == 0 {
-        return 0;
+        return b'#';
     }
     text[0]
 }

@@ -12,6 +12,9 @@ Inv-loop text words₀ r₀ i₀ words r i = length words ≡ length words₀
 abbrev μ-loop : tie.MeasureT-loop
 μ-loop text words₀ r₀ i₀ words r i = length text - i
 
+behind-requires : tie.Need-behind-requires Inv-loop μ-loop
+behind-requires c κs = search needs
+
 loop-holds : tie.Need-loop-holds Inv-loop μ-loop
 loop-holds c = search needs
 
@@ -45,6 +48,7 @@ words-spec =
     (tie.spec
     Inv-loop
     μ-loop
+    behind-requires
     loop-holds
     shared-slice-read-with-byte
     with-byte-requires
