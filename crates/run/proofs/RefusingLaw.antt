@@ -1,6 +1,5 @@
 -- Refusals 1 to 5 of a run are the outcome's; where there is none, the outcome is the run.
 use mathlib.Core.Path.{_≡_, _∙_}
-use mathlib.Core.Bool.{Bool, true, false, _||_}
 use mathlib.Core.List.{List}
 use Prim.Native.Nat.{ℕ, _*_, _/_, _≤_}
 use lib.Dec.{ltb}

@@ -9,7 +9,6 @@ use lib.Dec.{eqb, ltb, leb}
 use lib.IntN.{ℤ}
 use lib.ListN.{length}
 use borrow.Author.Tests.{lt-ltb, le-ltb, ne-eqb, le-leb, lt-leb, ltb-true, ltb-false, eqb-false}
-use Rattle.minuska.specs.declared.Check.{Check}
 use Rattle.minuska.specs.declared.Check.the-variants.{Good, Refused}
 use Rattle.minuska.specs.declared.Refusal.{Refusal}
 use Rattle.minuska.specs.Term.{Term, nodeCount}
@@ -76,7 +75,7 @@ module _ (words frames nodes : ℕ) (some : 0 < frames) where
 
 -- ---- tests in order, and what is answered behind them
 module _ {A : Type 0} (x : A) where
-  pub tested-refused : (ts : List Test) (r : Refusal) → firstTest ts ≡ Refused r → tested ts x ≡ refused r
+  tested-refused : (ts : List Test) (r : Refusal) → firstTest ts ≡ Refused r → tested ts x ≡ refused r
   tested-refused [] r e = absurd (let z : _≡_ {A = ℕ} 0 1 = cc in let f : ⊥ = omega arith in f)
   tested-refused (t ∷ ts) r e = pick (t .given) (λ h. tested-refused ts r h) e
     where
@@ -84,7 +83,7 @@ module _ {A : Type 0} (x : A) where
       pick true rest h = let f : t .refusal ≡ r = cc in ap {B = Outcome A} refused f
       pick false rest h = rest h
 
-  pub tested-good : (ts : List Test) → firstTest ts ≡ Good → tested ts x ≡ gives x
+  tested-good : (ts : List Test) → firstTest ts ≡ Good → tested ts x ≡ gives x
   tested-good [] e = refl
   tested-good (t ∷ ts) e = pick (t .given) (λ h. tested-good ts h) e
     where

@@ -24,10 +24,11 @@ fn limit_outside(limit: usize, nodes: usize) -> bool
 pub fn check_sizes(count: usize, most: usize, nodes: usize, limit: usize, short: bool) -> Check
     ensures { λ r. ⌜ r ≡ sizeCheck count most nodes limit short ⌝ }
 {
+    let outside = limit_outside(limit, nodes);
     if most < count {
         return Check::Refused(Refusal::TooLong);
     }
-    if limit_outside(limit, nodes) {
+    if outside {
         return Check::Refused(Refusal::BadLimit);
     }
     if short {

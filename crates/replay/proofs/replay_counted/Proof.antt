@@ -8,7 +8,6 @@ use Rattle.minuska.specs.declared.Check.{Check}
 use Rattle.minuska.specs.declared.Check.the-variants.{Good, Refused}
 use Rattle.minuska.specs.Rule.{maxActions}
 use Rattle.minuska.specs.Computed.Outcome.{replayShort}
-use Rattle.minuska.specs.Bridge.Place.{Indexed}
 use Rattle.sizes.specs.Sizes.{sizeCheck, Sized}
 use Rattle.sizes.proofs.SizesLaw.{sized}
 use Rattle.replay.proofs.CallLaw.{not-accepted, not-sized, room-fits, slices-fit, called}
