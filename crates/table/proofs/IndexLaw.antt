@@ -83,19 +83,19 @@ module _ (ws : List ℤ) (index : List ℕ) (n : ℕ) (x : Indexed ws index) whe
     left-is p q =
         part-is (λ r o.
         let a : from ≡ leftFrom (o .start) = omega (arith, o .numbers 0 (omega arith)) in
-        (subst⁻¹ (λ (k : ℕ). Stands ws k (leftWords r)) a (left-stands ws index n r o), omega (arith, o .numbers 1 (omega arith))))
+        (subst⁻¹ (λ (k : ℕ). Stands ws k (leftWords r)) a (left-stands ws (o .start) r (o .stands)), omega (arith, o .numbers 1 (omega arith))))
 
     pub right-is : from ≡ getD index (perRule * n + 1) 0 + firstRule → to ≡ getD index (perRule * n + 2) 0 + firstRule → PartIs rightWords ws n from to
     right-is p q =
         part-is (λ r o.
         let a : from ≡ rightFrom (o .start) r = omega (arith, o .numbers 1 (omega arith)) in
-        (subst⁻¹ (λ (k : ℕ). Stands ws k (rightWords r)) a (right-stands ws index n r o), omega (arith, o .numbers 2 (omega arith))))
+        (subst⁻¹ (λ (k : ℕ). Stands ws k (rightWords r)) a (right-stands ws (o .start) r (o .stands)), omega (arith, o .numbers 2 (omega arith))))
 
     pub conditions-are : from ≡ getD index (perRule * n + 2) 0 + firstRule → to ≡ getD index (perRule * n + 3) 0 + firstRule → PartIs conditionsWords ws n from to
     conditions-are p q =
         part-is (λ r o.
         let a : from ≡ conditionsFrom (o .start) r = omega (arith, o .numbers 2 (omega arith)) in
-        (subst⁻¹ (λ (k : ℕ). Stands ws k (conditionsWords r)) a (conditions-stand ws index n r o), omega (arith, o .numbers 3 (omega arith))))
+        (subst⁻¹ (λ (k : ℕ). Stands ws k (conditionsWords r)) a (conditions-stand ws (o .start) r (o .stands)), omega (arith, o .numbers 3 (omega arith))))
 
 -- ---- the order of rules, by position
 up-at : (i k q n : ℕ) → getElem? (upFrom i k) q ≡ some n → i + q ≡ n

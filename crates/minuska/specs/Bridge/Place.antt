@@ -98,7 +98,7 @@ perRule = 6
 
 -- room for 256 rules
 abbrev pub indexLength : ℕ
-indexLength = 1536
+indexLength = 256 * perRule
 
 abbrev pub rulePlaces : ℕ → Rule → List ℕ
 rulePlaces at r =
