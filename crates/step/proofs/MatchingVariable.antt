@@ -20,14 +20,14 @@ use Rattle.minuska.specs.Rule.{symbolicAt}
 use Rattle.minuska.specs.Computed.Match.{sameTerm, assignNew, assignAt, assign}
 use Rattle.minuska.specs.Bridge.Place.{part, Stands, GroundAt, GroundEnds, BoundAt, Binds}
 use Rattle.minuska.proofs.Tests.{and-left, and-right, provided-true, same-term, term-same}
-use Rattle.minuska.proofs.WordLaw.{okay}
+use Rattle.minuska.proofs.WordLaw.{okay, childless}
 use Rattle.minuska.proofs.Bridge.PlaceLaw.{stands-second, stands-unique}
 use Rattle.minuska.proofs.Bridge.AppendedLaw.{first-words, labels}
 use Rattle.step.specs.Compare.{Comparison, apart, later, after, compareBound, compare}
 use Rattle.step.specs.Matching.{Walk, Walking, TurnFrom, Put, LeftTurned}
 use Rattle.step.specs.declared.matching.LeftTurn.the-variants.{Bind, Again, Misfit}
 use Rattle.step.proofs.CompareLaw.{later-later}
-use Rattle.step.proofs.MatchingLaw.{word, childless, has-part, heads, left-tag, left-datum, words-here, term-at}
+use Rattle.step.proofs.MatchingLaw.{word, has-part, heads, left-tag, left-datum, words-here, term-at}
 
 -- the tag 3 is a variable's
 pub tag-three : (l : Label) (k : ℕ) → tagWord l k ≡ pos 3 → (v : ℕ) × (l ≡ variable v)

@@ -20,7 +20,7 @@ use Rattle.minuska.specs.Bridge.Walk.{emit}
 use Rattle.minuska.specs.Bridge.Place.{Stands, part}
 use Rattle.minuska.proofs.Tests.{and-left, and-right, and-both}
 use Rattle.minuska.proofs.FunctionLaw.{every-value}
-use Rattle.minuska.proofs.WordLaw.{okay, okay-all, appended, encode-appended}
+use Rattle.minuska.proofs.WordLaw.{childless, okay, okay-all, appended, encode-appended}
 use Rattle.minuska.proofs.Bridge.AppendedLaw.{first-words, appended-ok}
 use Rattle.minuska.proofs.Bridge.ItemLaw.{variable-item, call-item, plain-item, term-appended}
 use Rattle.minuska.proofs.Bridge.PlaceLaw.{stands-first, stands-second, stands-head, stands-word}
@@ -31,7 +31,7 @@ use Rattle.value.specs.Value.{valueWords, Within, sizeOf, Ordered}
 use Rattle.value.specs.Evaluate.{HasValue, ExpressionIn, EvaluateContract}
 use Rattle.value.proofs.WordsLaw.{size-is, within-ordered}
 use Rattle.step.specs.Right.{Rest, SomeRest, LeadsOn, ItemOf, ItemIs, SizedOf, SizedIs, SomePiece, PieceIs, OneNodeIs}
-use Rattle.step.proofs.MatchingLaw.{word, childless}
+use Rattle.step.proofs.MatchingLaw.{word}
 use Rattle.step.proofs.MatchingVariable.{tag-three}
 
 -- ---- labels by their tag word
