@@ -66,4 +66,4 @@ pub const PER_RULE: usize = 6;
 
 pub const INDEX_LEN: usize = 256 * PER_RULE;
 
-pub type Index = [u32; INDEX_LEN];
+pub type Index = [u16; INDEX_LEN];

@@ -76,7 +76,7 @@ pub fn replay(
 ) -> ReplayAnswer
     ensures { λ r. ⌜ ReplayContract (now (table .entry)) (now (configuration .entry)) (now (log .entry)) limit (now (out .entry)) (now (choices .entry)) (now (work .entry)) (now (out .exit)) (now (choices .exit)) (now (work .exit)) r ⌝ }
 {
-    let mut index = [0u32; INDEX_LEN];
+    let mut index = [0u16; INDEX_LEN];
     let accepted = step::accept(table, configuration, &mut index);
     if let Check::Refused(refusal) = accepted {
         return ReplayAnswer::Refused(refusal);

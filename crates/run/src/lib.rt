@@ -224,7 +224,7 @@ pub fn run<'a>(
 ) -> RunAnswer
     ensures { λ r. ⌜ RunContract (now (table .entry)) (now (configuration .entry)) budget limit (now (out .entry)) (now (spare .entry)) (now (out .exit)) (now (spare .exit)) r ⌝ }
 {
-    let mut index = [0u32; INDEX_LEN];
+    let mut index = [0u16; INDEX_LEN];
     if let Check::Refused(number) = step::accept(table, configuration, &mut index) {
         return RunAnswer::Refused(number);
     }

@@ -13,7 +13,7 @@ use mir.Syntax.{w64}
 use mir.Val.{SFits, ofZ}
 use Rattle.term.proofs.SignedLaw.{same-bits}
 use Rattle.minuska.specs.Basics.{_>>=_, sameWhole}
-use Rattle.minuska.specs.Term.{Label, error, truth, whole, variable, call, symbol, Forest, nil, node, Term, single, termCount, plain, role, groundAt}
+use Rattle.minuska.specs.Term.{Label, Forest, nil, node, Term, single, termCount, plain, role, groundAt}
 use Rattle.minuska.specs.Word.{tagWord, datumWord, okHead, ok, encode}
 use Rattle.minuska.specs.Satisfaction.{Valuation}
 use Rattle.minuska.specs.Rule.{symbolicAt, isSymbolic}
@@ -25,6 +25,7 @@ use Rattle.minuska.proofs.Bridge.AppendedLaw.{first-words, appended-count, appe
 use Rattle.step.specs.Compare.{Comparison, apart, later, compare}
 use Rattle.step.specs.Matching.{Walk, Walking, TurnFrom, LeftTurned}
 use Rattle.step.specs.declared.matching.LeftTurn.the-variants.{Same, Misfit}
+use Rattle.step.proofs.TagLaw.{symbolic-plain}
 use Rattle.step.proofs.CompareLaw.{later-later, same-node, compare-plain, compare-on}
 
 abbrev pub word : List ℤ → ℕ → ℤ
@@ -41,15 +42,6 @@ is-same a b e = pick (sameWhole a b) (subst (λ (x : ℤ). T (sameWhole a x)) e 
     pick : (t : Bool) → T t → t ≡ true
     pick true h = refl
     pick false h = absurd h
-
--- a left's label is a variable's, with tag 3, or plain
-symbolic-plain : (l : Label) (k : ℕ) → T (symbolicAt (role l)) → (tagWord l k ≡ pos 3 → ⊥) → role l ≡ plain
-symbolic-plain error k s f = refl
-symbolic-plain (truth b) k s f = refl
-symbolic-plain (whole x) k s f = refl
-symbolic-plain (variable v) k s f = absurd (f refl)
-symbolic-plain (call c) k s f = absurd s
-symbolic-plain (symbol x) k s f = refl
 
 -- no words, no terms
 no-words : (f : Forest) → length (encode f) ≡ 0 → termCount f ≡ 0

@@ -146,7 +146,7 @@ pub fn step_by_rule<'a>(
 ) -> StepAnswer
     ensures { λ r. ⌜ StepByRuleContract (now (table .entry)) (now (configuration .entry)) rule (now (out .entry)) (now (out .exit)) r ⌝ }
 {
-    let mut index = [0u32; INDEX_LEN];
+    let mut index = [0u16; INDEX_LEN];
     match accept(table, configuration, &mut index) {
         Check::Good => apply_rule(table, &index, configuration, rule, out),
         Check::Refused(r) => StepAnswer::Refused(r),
@@ -157,7 +157,7 @@ pub fn step_by_rule<'a>(
 pub fn step<'a>(table: &'a [i64], configuration: &'a [i64], out: &mut [i64]) -> StepAnswer
     ensures { λ r. ⌜ StepContract (now (table .entry)) (now (configuration .entry)) (now (out .entry)) (now (out .exit)) r ⌝ }
 {
-    let mut index = [0u32; INDEX_LEN];
+    let mut index = [0u16; INDEX_LEN];
     match accept(table, configuration, &mut index) {
         Check::Good => apply_earliest(table, &index, configuration, out),
         Check::Refused(r) => StepAnswer::Refused(r),

@@ -23,6 +23,7 @@ use Rattle.minuska.proofs.Tests.{came, provided-some, and-right, true-of}
 use Rattle.minuska.proofs.Good.{good}
 use Rattle.minuska.proofs.TableLaw.{rule-read, read-table-iff}
 use Rattle.minuska.proofs.Bridge.PlaceLaw.{stands-of, stands-head, stands-word}
+use Rattle.minuska.proofs.Bridge.IndexLaw.{left-stands}
 use Rattle.table.specs.Number.{naturalOf}
 use Rattle.table.specs.Rule.{RuleAt}
 use Rattle.table.specs.Index.{placesThen, placesRead, placesCounted, placesFound, rowOf, RowFits, IndexTableContract}
@@ -181,9 +182,7 @@ module _ (ws : List ℤ) (at right conditions end : ℕ) (p : RuleAt ws at right
   action-word = ap naturalOf (stands-head rule-stands (pos 0))
 
   root-key : keyOf (getD ws (leftFrom at) (pos 0)) (getD ws (leftFrom at + 1) (pos 0)) ≡ rootKey (r .left)
-  root-key =
-      let e : leftFrom at + 1 ≡ at + 3 = omega arith in
-      ap₂ keyOf (stands-word rule-stands 2 (pos 0) (omega arith)) (ap (λ (i : ℕ). getD ws i (pos 0)) e ∙ stands-word rule-stands 3 (pos 0) (omega arith))
+  root-key = let s = left-stands ws at r rule-stands in ap₂ keyOf (stands-head s (pos 0)) (stands-word s 1 (pos 0) (omega arith))
 
   -- its row is written from what was found
   row-is : rulePlaces at r ≡ rowOf ws at right conditions end
@@ -200,8 +199,9 @@ module _ (ws : List ℤ) (at right conditions end : ℕ) (p : RuleAt ws at right
       let k = p .endIs in
       record {
         root = omega arith;
-        rightFits = omega arith;
-        conditionsFit = omega arith;
+        rightAfter = omega arith;
+        conditionsAfter = omega arith;
+        endAfter = omega arith;
         endFits = omega arith;
         short = h;
         action = let e = action-word in let g = good r (rule-read (drop at ws) (r, drop end ws) (p .read) .0) .action in omega arith;

@@ -13,11 +13,9 @@ use lib.ListN.{length, getD, getElem?}
 use borrow.Author.Tests.{leb-true, leb-false}
 use Rattle.minuska.specs.Rule.{Rule, Table, IsTable}
 use Rattle.minuska.specs.Computed.Step.{upFrom, order}
-use Rattle.minuska.specs.Bridge.Place.{Stands, leftWords, rightWords, conditionsWords, perRule, Indexed, Names, PartIs, RuleCountIs, ActionIs, OrderedIs, Positions}
-use Rattle.minuska.proofs.Good.{good}
+use Rattle.minuska.specs.Bridge.Place.{Stands, leftWords, rightWords, conditionsWords, leftFrom, rightFrom, conditionsFrom, firstRule, perRule, Indexed, Names, PartIs, RuleCountIs, ActionIs, OrderedIs, Positions}
 use Rattle.minuska.proofs.Bridge.IndexLaw.{one-table, RulePlaced, rule-placed, left-stands, right-stands, conditions-stand}
 use Rattle.minuska.proofs.Bridge.PositionLaw.{element-there, few-rules, order-length}
-use Rattle.minuska.proofs.StepLaw.{rule-okay}
 use Rattle.minuska.proofs.OrderLaw.{named-below}
 use Rattle.table.specs.Number.{naturalOf}
 
@@ -70,12 +68,6 @@ module _ (ws : List ℤ) (index : List ℕ) (n : ℕ) (x : Indexed ws index) whe
   action-at : (t : Table) (r : Rule) → IsTable ws t → getElem? t n ≡ some r → getD index (perRule * n + 5) 0 ≡ r .action
   action-at t r p e = placed t r p e .numbers 5 (omega arith)
 
-  pub action-low : Names ws n → getD index (perRule * n + 5) 0 < 65536
-  action-low a =
-      let e = action-at (a .table) (a .rule) (a .is) (a .numbered) in
-      let h = good (a .rule) (rule-okay (a .table) (a .is .accepted) n (a .rule) (a .numbered)) .action in
-      omega arith
-
   pub action-is : Names ws n → (k : ℕ) → k ≡ getD index (perRule * n + 5) 0 → ActionIs ws n k
   action-is a k q =
       record {
@@ -87,23 +79,23 @@ module _ (ws : List ℤ) (index : List ℕ) (n : ℕ) (x : Indexed ws index) whe
   part-is f = record { stands = λ t r p e. f r (placed t r p e) .0; ends = λ t r p e. f r (placed t r p e) .1 }
 
   module _ (from to : ℕ) where
-    pub left-is : from ≡ getD index (perRule * n + 0) 0 → to ≡ getD index (perRule * n + 1) 0 → PartIs leftWords ws n from to
+    pub left-is : from ≡ getD index (perRule * n + 0) 0 + firstRule → to ≡ getD index (perRule * n + 1) 0 + firstRule → PartIs leftWords ws n from to
     left-is p q =
         part-is (λ r o.
-        let a = p ∙ o .numbers 0 (omega arith) in
-        (subst⁻¹ (λ (k : ℕ). Stands ws k (leftWords r)) a (left-stands ws index n r o), q ∙ (o .numbers 1 (omega arith) ∙ ap (λ (k : ℕ). k + length (leftWords r)) (sym a))))
+        let a : from ≡ leftFrom (o .start) = omega (arith, o .numbers 0 (omega arith)) in
+        (subst⁻¹ (λ (k : ℕ). Stands ws k (leftWords r)) a (left-stands ws (o .start) r (o .stands)), omega (arith, o .numbers 1 (omega arith))))
 
-    pub right-is : from ≡ getD index (perRule * n + 1) 0 → to ≡ getD index (perRule * n + 2) 0 → PartIs rightWords ws n from to
+    pub right-is : from ≡ getD index (perRule * n + 1) 0 + firstRule → to ≡ getD index (perRule * n + 2) 0 + firstRule → PartIs rightWords ws n from to
     right-is p q =
         part-is (λ r o.
-        let a = p ∙ o .numbers 1 (omega arith) in
-        (subst⁻¹ (λ (k : ℕ). Stands ws k (rightWords r)) a (right-stands ws index n r o), q ∙ (o .numbers 2 (omega arith) ∙ ap (λ (k : ℕ). k + length (rightWords r)) (sym a))))
+        let a : from ≡ rightFrom (o .start) r = omega (arith, o .numbers 1 (omega arith)) in
+        (subst⁻¹ (λ (k : ℕ). Stands ws k (rightWords r)) a (right-stands ws (o .start) r (o .stands)), omega (arith, o .numbers 2 (omega arith))))
 
-    pub conditions-are : from ≡ getD index (perRule * n + 2) 0 → to ≡ getD index (perRule * n + 3) 0 → PartIs conditionsWords ws n from to
+    pub conditions-are : from ≡ getD index (perRule * n + 2) 0 + firstRule → to ≡ getD index (perRule * n + 3) 0 + firstRule → PartIs conditionsWords ws n from to
     conditions-are p q =
         part-is (λ r o.
-        let a = p ∙ o .numbers 2 (omega arith) in
-        (subst⁻¹ (λ (k : ℕ). Stands ws k (conditionsWords r)) a (conditions-stand ws index n r o), q ∙ (o .numbers 3 (omega arith) ∙ ap (λ (k : ℕ). k + length (conditionsWords r)) (sym a))))
+        let a : from ≡ conditionsFrom (o .start) r = omega (arith, o .numbers 2 (omega arith)) in
+        (subst⁻¹ (λ (k : ℕ). Stands ws k (conditionsWords r)) a (conditions-stand ws (o .start) r (o .stands)), omega (arith, o .numbers 3 (omega arith))))
 
 -- ---- the order of rules, by position
 up-at : (i k q n : ℕ) → getElem? (upFrom i k) q ≡ some n → i + q ≡ n

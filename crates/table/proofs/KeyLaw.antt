@@ -5,7 +5,6 @@ use mathlib.Core.Logic.{_⊎_, inl, inr}
 use mathlib.Core.Option.{some}
 use mathlib.Core.List.{List}
 use Prim.Native.Nat.{ℕ, suc, _+_, _*_, _%_, _^_, _≤_, _<_}
-use native.Mathlib.Nat.{mod-lt}
 use native.Mathlib.Decide.{ℕ-discrete}
 use native.Mathlib.Omega.{arith}
 use lib.IntN.{ℤ, pos, negsuc}
@@ -27,17 +26,14 @@ key-variable (pos n) d e = rw e refl
 key-variable (negsuc n) d e = absurd (let f : ⊥ = omega arith in f)
 
 abbrev pub keyNumber : ℕ → ℕ → ℕ
-keyNumber t d = 4096 * (t % 16) + d % 4096 + 1
+keyNumber t d = 4096 * (t % 16) + d % 4096
 
 pub key-other : (t d : ℤ) → (naturalOf t ≡ 3 → ⊥) → keyNumber (naturalOf t) (naturalOf d) ≡ keyOf t d
 unfolding keyOf
-key-other (pos n) (pos m) f = rw (ne-eqb n 3 f) (omega arith)
-key-other (pos n) (negsuc m) f = rw (ne-eqb n 3 f) (omega arith)
-key-other (negsuc n) (pos m) f = omega arith
+key-other (pos n) (pos m) f = rw (ne-eqb n 3 f) refl
+key-other (pos n) (negsuc m) f = rw (ne-eqb n 3 f) refl
+key-other (negsuc n) (pos m) f = refl
 key-other (negsuc n) (negsuc m) f = refl
-
-pub key-fits : (t d : ℕ) → keyNumber t d < 2 ^ 32
-key-fits t d = let a : t % 16 < 16 = mod-lt t (omega arith) in let b : d % 4096 < 4096 = mod-lt d (omega arith) in omega arith
 
 -- ---- what `seek` passes over
 variable-key : (d : ℤ) → keyOf (pos 3) d ≡ 0

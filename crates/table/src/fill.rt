@@ -1,4 +1,5 @@
 // The table's check, in one pass that fills the index.
+use crate::index::FIRST_RULE;
 use crate::index::put;
 use crate::number::natural;
 use crate::rule::Parts;
@@ -13,7 +14,7 @@ ghost use Rattle.minuska.specs.Bridge.Place.{indexLength};
 ghost use Rattle.table.specs.Index.{IndexTableContract};
 
 // The check. A rule's numbers are written once it is accepted.
-pub fn fill(table: &[i64], index: &mut [u32], ranges: &[i64; 32]) -> Check
+pub fn fill(table: &[i64], index: &mut [u16], ranges: &[i64; 32]) -> Check
     requires { ⌜ (indexLength ≤ length (now index)) × (now ranges ≡ groundRanges) ⌝ }
     ensures { λ r. ⌜ IndexTableContract (now (table .entry)) (now (index .entry)) (now (index .exit)) r ⌝ }
 {
@@ -28,7 +29,7 @@ pub fn fill(table: &[i64], index: &mut [u32], ranges: &[i64; 32]) -> Check
     if 256 < count {
         return Check::Refused(Refusal::BadTable);
     }
-    let mut at: usize = 1;
+    let mut at = FIRST_RULE;
     let mut rule: usize = 0;
     while rule < count {
         let Parts::At(right, conditions, end) = rule_parts(table, at, ranges) else {

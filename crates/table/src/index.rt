@@ -5,11 +5,14 @@ use minuska::Index;
 use minuska::PER_RULE;
 ghost use mathlib.Core.Path.{_≡_};
 ghost use mathlib.Core.List.{[], _∷_};
-ghost use Prim.Native.Nat.{_+_, _*_, _<_, _≤_};
+ghost use Prim.Native.Nat.{_+_, _-_, _*_, _<_, _≤_};
 ghost use lib.ListN.{length, getD};
 ghost use lib.Seq.{sets};
-ghost use Rattle.minuska.specs.Bridge.Place.{perRule, Indexed, Names, leftWords, rightWords, conditionsWords, PartIs, ActionIs};
-ghost use Rattle.table.specs.Index.{rowOf, RowFits};
+ghost use Rattle.minuska.specs.Bridge.Place.{firstRule, perRule, Indexed, Names, leftWords, rightWords, conditionsWords, PartIs, ActionIs};
+ghost use Rattle.table.specs.Index.{NumberIs, rowOf, RowFits};
+
+// The word at which the first rule stands, behind the rule count: places are counted from there.
+pub const FIRST_RULE: usize = 1;
 
 // A rule's header words, in front of its left: its action and its condition count.
 pub const HEADER: usize = 2;
@@ -36,27 +39,42 @@ pub struct Span {
 // A number of a rule's row.
 pub fn number(index: &Index, rule: usize, column: usize) -> usize
     requires { ⌜ (rule < 256) × (column < perRule) ⌝ }
-    ensures { λ r. ⌜ r ≡ getD (now (index .entry)) (perRule * rule + column) 0 ⌝ }
+    ensures { λ r. ⌜ NumberIs (now (index .entry)) rule column r ⌝ }
 {
     wide(index[PER_RULE * rule + column])
 }
 
-fn wide(x: u32) -> usize
-    ensures { λ r. ⌜ r ≡ x ⌝ }
+fn wide(x: u16) -> usize
+    ensures { λ r. ⌜ (r ≡ x) × (r < 65536) ⌝ }
 {
     x as usize
 }
 
+// A place from its number, and the number of a place.
+fn place(index: &Index, rule: usize, column: usize) -> usize
+    requires { ⌜ (rule < 256) × (column < perRule) ⌝ }
+    ensures { λ r. ⌜ r ≡ getD (now (index .entry)) (perRule * rule + column) 0 + firstRule ⌝ }
+{
+    number(index, rule, column) + FIRST_RULE
+}
+
+fn placed(place: usize) -> u16
+    requires { ⌜ (firstRule ≤ place) × (place ≤ 65536) ⌝ }
+    ensures { λ r. ⌜ r ≡ place - firstRule ⌝ }
+{
+    (place - FIRST_RULE) as u16
+}
+
 // Writes a rule's row.
 fn store(
-    index: &mut [u32],
+    index: &mut [u16],
     rule: usize,
-    left: u32,
-    right: u32,
-    conditions: u32,
-    end: u32,
-    key: u32,
-    action: u32,
+    left: u16,
+    right: u16,
+    conditions: u16,
+    end: u16,
+    key: u16,
+    action: u16,
 )
     requires { ⌜ perRule * rule + perRule ≤ length (now index) ⌝ }
     ensures { λ _. ⌜ now (index .exit) ≡ sets (now (index .entry)) (perRule * rule) (left ∷ right ∷ conditions ∷ end ∷ key ∷ action ∷ []) ⌝ }
@@ -73,7 +91,7 @@ fn store(
 // Writes the row of a rule that starts at a place, from where its parts stand.
 pub fn put(
     table: &[i64],
-    index: &mut [u32],
+    index: &mut [u16],
     rule: usize,
     at: usize,
     right: usize,
@@ -89,12 +107,12 @@ pub fn put(
     store(
         index,
         rule,
-        left as u32,
-        right as u32,
-        conditions as u32,
-        end as u32,
+        placed(left),
+        placed(right),
+        placed(conditions),
+        placed(end),
         root,
-        action as u32,
+        action as u16,
     );
 }
 
@@ -104,8 +122,8 @@ pub fn left(table: &[i64], index: &Index, rule: usize) -> Span
     ensures { λ r. ⌜ PartIs leftWords (now (table .entry)) rule (r .from) (r .to) ⌝ }
 {
     Span {
-        from: number(index, rule, LEFT),
-        to: number(index, rule, RIGHT),
+        from: place(index, rule, LEFT),
+        to: place(index, rule, RIGHT),
     }
 }
 
@@ -115,8 +133,8 @@ pub fn right(table: &[i64], index: &Index, rule: usize) -> Span
     ensures { λ r. ⌜ PartIs rightWords (now (table .entry)) rule (r .from) (r .to) ⌝ }
 {
     Span {
-        from: number(index, rule, RIGHT),
-        to: number(index, rule, CONDITIONS),
+        from: place(index, rule, RIGHT),
+        to: place(index, rule, CONDITIONS),
     }
 }
 
@@ -126,8 +144,8 @@ pub fn conditions(table: &[i64], index: &Index, rule: usize) -> Span
     ensures { λ r. ⌜ PartIs conditionsWords (now (table .entry)) rule (r .from) (r .to) ⌝ }
 {
     Span {
-        from: number(index, rule, CONDITIONS),
-        to: number(index, rule, END),
+        from: place(index, rule, CONDITIONS),
+        to: place(index, rule, END),
     }
 }
 

@@ -7,8 +7,8 @@ ghost use mathlib.Core.Path.{_≡_};
 ghost use Prim.Native.Nat.{_≤_};
 ghost use Rattle.minuska.specs.Bridge.Place.{keyOf, Indexed, Accepted, Positions, SeekIs};
 
-// The key of a node, by its two words; 0 of a variable only.
-pub fn key(t: i64, d: i64) -> u32
+// The key of a node, by its two words; 0 of a variable.
+pub fn key(t: i64, d: i64) -> u16
     ensures { λ r. ⌜ r ≡ keyOf t d ⌝ }
 {
     let tag = natural(t);
@@ -16,7 +16,7 @@ pub fn key(t: i64, d: i64) -> u32
         return 0;
     }
     let datum = natural(d);
-    (4096 * (tag % 16) + datum % 4096 + 1) as u32
+    (4096 * (tag % 16) + datum % 4096) as u16
 }
 
 // The first position from one on, up to another, whose rule's left may match at its root: it is a variable, or has the key of the configuration's root.

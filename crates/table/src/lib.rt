@@ -22,7 +22,7 @@ ghost use Rattle.table.specs.Index.{IndexTableContract};
 pub fn check_table(table: &[i64]) -> Check
     ensures { λ r. ⌜ CheckTableContract (now (table .entry)) r ⌝ }
 {
-    let mut index = [0u32; INDEX_LEN];
+    let mut index = [0u16; INDEX_LEN];
     index_table(table, &mut index)
 }
 

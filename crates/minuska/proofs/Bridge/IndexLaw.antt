@@ -52,8 +52,8 @@ rule-placed ws index t n r x p e =
     let here : (k : ℕ) → k < perRule * length t → getD (places t) k 0 ≡ getD index k 0 = λ k b. sym (ap (λ (l : List ℕ). getD l k 0) taken) ∙ getD-take (perRule * length t) index k 0 b in
     record { start = i .start; numbers = λ k b. sym (here (perRule * n + k) (omega arith)) ∙ i .numbers k b; stands = i .stands }
 
--- the parts of a rule stand where its places say
-module _ (ws : List ℤ) (index : List ℕ) (n : ℕ) (r : Rule) (x : RulePlaced ws index n r) where
+-- the parts of a rule stand one behind the other
+module _ (ws : List ℤ) (at : ℕ) (r : Rule) (s : Stands ws at (ruleWords r)) where
   abbrev A : List ℤ
   A = leftWords r
 
@@ -66,11 +66,14 @@ module _ (ws : List ℤ) (index : List ℕ) (n : ℕ) (r : Rule) (x : RulePlaced
   abbrev head : List ℤ
   head = pos (r .action) ∷ pos (length (r .conditions)) ∷ []
 
-  pub left-stands : Stands ws (leftFrom (x .start)) A
-  left-stands = stands-first A (B ++ C) (stands-second head (A ++ (B ++ C)) (x .stands))
+  body-stands : Stands ws (leftFrom at) (A ++ (B ++ C))
+  body-stands = stands-second head (A ++ (B ++ C)) s
 
-  pub right-stands : Stands ws (rightFrom (x .start) r) B
-  right-stands = stands-first B C (stands-second A (B ++ C) (stands-second head (A ++ (B ++ C)) (x .stands)))
+  pub left-stands : Stands ws (leftFrom at) A
+  left-stands = stands-first A (B ++ C) body-stands
 
-  pub conditions-stand : Stands ws (conditionsFrom (x .start) r) C
-  conditions-stand = stands-second B C (stands-second A (B ++ C) (stands-second head (A ++ (B ++ C)) (x .stands)))
+  pub right-stands : Stands ws (rightFrom at r) B
+  right-stands = stands-first B C (stands-second A (B ++ C) body-stands)
+
+  pub conditions-stand : Stands ws (conditionsFrom at r) C
+  conditions-stand = stands-second B C (stands-second A (B ++ C) body-stands)

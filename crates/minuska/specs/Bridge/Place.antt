@@ -4,7 +4,7 @@ use mathlib.Core.Bool.{Bool, true, false, cond}
 use mathlib.Core.Logic.{_⊎_}
 use mathlib.Core.Option.{none, some}
 use mathlib.Core.List.{List, [], _∷_, _++_}
-use Prim.Native.Nat.{ℕ, suc, _+_, _-_, _*_, _%_, _≤_, _<_}
+use Prim.Native.Nat.{ℕ, _+_, _-_, _*_, _%_, _≤_, _<_}
 use lib.IntN.{ℤ, pos, negsuc}
 use lib.Dec.{T}
 use lib.ListN.{length, take, drop, getD, getElem?}
@@ -71,13 +71,13 @@ conditionsFrom at r = rightFrom at r + length (rightWords r)
 abbrev pub endFrom : ℕ → Rule → ℕ
 endFrom at r = conditionsFrom at r + length (conditionsWords r)
 
--- The key of a node, by its two words: 0 of a variable, and of no other node. Nodes with different keys differ.
+-- The key of a node, by its two words, a number of 16 bits: 0 of a variable. Nodes with different keys differ.
 abbrev pub remainder : ℤ → ℕ → ℕ
 remainder (pos n) m = n % m
 remainder (negsuc n) m = 0
 
 unfoldable pub keyOf : ℤ → ℤ → ℕ
-keyOf t d = cond (sameWhole t (pos 3)) 0 (suc (4096 * remainder t 16 + remainder d 4096))
+keyOf t d = cond (sameWhole t (pos 3)) 0 (4096 * remainder t 16 + remainder d 4096)
 
 -- A left's root and a configuration's: a variable's, or the same two words. Where they do not meet, the left does not match.
 abbrev pub rootTag : Term → ℤ
@@ -89,23 +89,27 @@ rootKey t = keyOf (rootTag t) (datumWord (t .label))
 abbrev pub RootMeets : Term → Term → Type 0
 RootMeets l g = (rootTag l ≡ pos 3) ⊎ ((rootTag l ≡ rootTag g) × (datumWord (l .label) ≡ datumWord (g .label)))
 
--- THE LAYOUT OF A TABLE'S INDEX: so many numbers a rule, in this order; the first rule stands at word 1.
+-- THE LAYOUT OF A TABLE'S INDEX: so many numbers a rule, in this order. They have 16 bits: places are counted from the first rule, which stands at word 1.
+abbrev pub firstRule : ℕ
+firstRule = 1
+
 abbrev pub perRule : ℕ
 perRule = 6
 
 -- room for 256 rules
 abbrev pub indexLength : ℕ
-indexLength = 1536
+indexLength = 256 * perRule
 
 abbrev pub rulePlaces : ℕ → Rule → List ℕ
-rulePlaces at r = leftFrom at ∷ rightFrom at r ∷ conditionsFrom at r ∷ endFrom at r ∷ rootKey (r .left) ∷ r .action ∷ []
+rulePlaces at r =
+    (leftFrom at - firstRule) ∷ (rightFrom at r - firstRule) ∷ (conditionsFrom at r - firstRule) ∷ (endFrom at r - firstRule) ∷ rootKey (r .left) ∷ r .action ∷ []
 
 abbrev pub placesFrom : ℕ → Table → List ℕ
 placesFrom at [] = []
 placesFrom at (r ∷ rs) = rulePlaces at r ++ placesFrom (at + length (ruleWords r)) rs
 
 abbrev pub places : Table → List ℕ
-places table = placesFrom 1 table
+places table = placesFrom firstRule table
 
 -- What the table's check establishes: the words are an accepted table, and the index begins with its places.
 pub record Indexed (ws : List ℤ) (index : List ℕ) : Type 0 where

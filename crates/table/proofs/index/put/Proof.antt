@@ -1,4 +1,4 @@
-use mathlib.Core.Path.{_≡_, _∙_, ap, ap₂}
+use mathlib.Core.Path.{_≡_, refl, _∙_, ap, ap₂}
 use mathlib.Core.List.{[], _∷_}
 use Prim.Native.Nat.{ℕ, _+_, _*_}
 use native.Mathlib.Omega.{arith}
@@ -45,20 +45,24 @@ word-requires-3 c κs = search needs
 natural-requires : tie.Need-natural-requires
 natural-requires c κs = search needs
 
+placed-requires : tie.Need-placed-requires
+placed-requires c κs = search needs
+
+placed-requires-2 : tie.Need-placed-requires-2
+placed-requires-2 c κs = search needs
+
+placed-requires-3 : tie.Need-placed-requires-3
+placed-requires-3 c κs = search needs
+
+placed-requires-4 : tie.Need-placed-requires-4
+placed-requires-4 c κs = search needs
+
 cast-store : tie.Need-cast-store
-cast-store c = search needs
-
-cast-store-2 : tie.Need-cast-store-2
-cast-store-2 c = search needs
-
-cast-store-3 : tie.Need-cast-store-3
-cast-store-3 c = search needs
-
-cast-store-4 : tie.Need-cast-store-4
-cast-store-4 c = search needs
-
-cast-store-5 : tie.Need-cast-store-5
-cast-store-5 c = let e = action-is (c .before) in let h = c .before .before .before .before .before .before .before .pre .1 .action in omega arith
+cast-store c =
+    let n = c .before .before .before .before .before in
+    let e = action-is n in
+    let h = n .before .before .before .before .before .before .pre .1 .action in
+    omega arith
 
 store-requires : tie.Need-store-requires
 store-requires c κs = search needs
@@ -69,9 +73,11 @@ same-length c = search needs
 returns : tie.Need-returns
 returns c =
     let w = c .before .before in
-    let n = w .before .before in
+    let p = w .before in
+    let n = p .before .before .before .before .before in
     let s = n .before .before .before .before .before .before in
-    w .store .ensures ∙ ap₂ (λ (k a : ℕ). sets (s .args .index .now) (perRule * s .args .rule) (leftFrom (s .args .at) ∷ s .args .right ∷ s .args .conditions ∷ s .args .end ∷ k ∷ a ∷ [])) (key-is (n .before .before)) (action-is n)
+    w .store .ensures ∙ (ap₂ (λ (k a : ℕ). sets (s .args .index .now) (perRule * s .args .rule) (p .before .before .before .placed .result ∷ p .before .before .placed2 .result ∷ p .before .placed3 .result ∷ p .placed4 .result ∷ k ∷ a ∷ [])) (key-is (n .before .before)) (action-is n) ∙
+    rw (p .before .before .before .placed .ensures, p .before .before .placed2 .ensures, p .before .placed3 .ensures, p .placed4 .ensures) refl)
 
 pub put-spec : {M : Type 1} → statement M
 put-spec =
@@ -84,11 +90,11 @@ put-spec =
     key-requires
     word-requires-3
     natural-requires
+    placed-requires
+    placed-requires-2
+    placed-requires-3
+    placed-requires-4
     cast-store
-    cast-store-2
-    cast-store-3
-    cast-store-4
-    cast-store-5
     store-requires
     same-length
     returns)

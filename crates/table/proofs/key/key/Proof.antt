@@ -26,9 +26,6 @@ mul-result c = search needs
 add-result : tie.Need-add-result
 add-result c = search needs
 
-add-result-2 : tie.Need-add-result-2
-add-result-2 c = search needs
-
 cast-result : tie.Need-cast-result
 cast-result c = search needs
 
@@ -49,6 +46,5 @@ key-spec =
     natural-requires-2
     mul-result
     add-result
-    add-result-2
     cast-result
     returns-2)

@@ -73,7 +73,7 @@ loop-again c =
       omega arith,
       omega arith,
       passes (s .args .table .now) (s .args .configuration .now) (s .args .index .now) (s .pre .0) (s .args .from) (l .loop .i) (o .ordered .result) (n .number .result) (l .before .key .result)
-          (o .ordered .ensures) (n .number .ensures) (root-is (l .before)) (e .if1 .left) (c .if2 .left) (l .loop .inv .2),
+          (o .ordered .ensures) (n .number .ensures .is) (root-is (l .before)) (e .if1 .left) (c .if2 .left) (l .loop .inv .2),
     )
 
 returns-3 : tie.Need-returns-3 Inv-loop μ-loop
