@@ -1,3 +1,4 @@
+pub mod TagLaw
 pub mod CompareLaw
 pub mod MatchingLaw
 pub mod MatchingVariable

@@ -13,18 +13,19 @@ use mir.Syntax.{w64}
 use mir.Val.{SFits, ofZ}
 use Rattle.term.proofs.SignedLaw.{same-bits}
 use Rattle.minuska.specs.Basics.{_>>=_, sameWhole}
-use Rattle.minuska.specs.Term.{Label, error, truth, whole, variable, call, symbol, Forest, nil, node, Term, single, termCount, plain, role, groundAt}
+use Rattle.minuska.specs.Term.{Label, Forest, nil, node, Term, single, termCount, plain, role, groundAt}
 use Rattle.minuska.specs.Word.{tagWord, datumWord, okHead, ok, encode}
 use Rattle.minuska.specs.Satisfaction.{Valuation}
 use Rattle.minuska.specs.Rule.{symbolicAt, isSymbolic}
 use Rattle.minuska.specs.Bridge.Place.{Stands, GroundAt, GroundEnds}
 use Rattle.minuska.proofs.Tests.{same-whole, whole-same}
-use Rattle.minuska.proofs.WordLaw.{okay, okay-all, head-okay, read-node, appended, encode-appended}
+use Rattle.minuska.proofs.WordLaw.{childless, okay, okay-all, head-okay, read-node, appended, encode-appended}
 use Rattle.minuska.proofs.Bridge.PlaceLaw.{stands-word, stands-head, stands-first, stands-second, stands-unique}
 use Rattle.minuska.proofs.Bridge.AppendedLaw.{first-words, appended-count, appended-ok, labels, labels-all, appended-labels}
 use Rattle.step.specs.Compare.{Comparison, apart, later, compare}
 use Rattle.step.specs.Matching.{Walk, Walking, TurnFrom, LeftTurned}
 use Rattle.step.specs.declared.matching.LeftTurn.the-variants.{Same, Misfit}
+use Rattle.step.proofs.TagLaw.{symbolic-plain}
 use Rattle.step.proofs.CompareLaw.{later-later, same-node, compare-plain, compare-on}
 
 abbrev pub word : List ℤ → ℕ → ℤ
@@ -35,13 +36,6 @@ pub word-same : {a b x y : ℤ} → SFits w64 a → SFits w64 b → a ≡ x → 
 word-same {a} {b} f g p q e = sym p ∙ (same-bits a b f g e ∙ q)
 
 -- ---- words that are the same, or not
-not-same : (a b : ℤ) → (a ≡ b → ⊥) → sameWhole a b ≡ false
-not-same a b f = pick (sameWhole a b) refl
-  where
-    pick : (t : Bool) → sameWhole a b ≡ t → t ≡ false
-    pick true e = absurd (f (same-whole a b (subst⁻¹ T e tt)))
-    pick false e = refl
-
 is-same : (a b : ℤ) → a ≡ b → sameWhole a b ≡ true
 is-same a b e = pick (sameWhole a b) (subst (λ (x : ℤ). T (sameWhole a x)) e (whole-same a))
   where
@@ -49,20 +43,7 @@ is-same a b e = pick (sameWhole a b) (subst (λ (x : ℤ). T (sameWhole a x)) e 
     pick true h = refl
     pick false h = absurd h
 
--- a left's label is a variable's, with tag 3, or plain
-symbolic-plain : (l : Label) (k : ℕ) → T (symbolicAt (role l)) → (tagWord l k ≡ pos 3 → ⊥) → role l ≡ plain
-symbolic-plain error k s f = refl
-symbolic-plain (truth b) k s f = refl
-symbolic-plain (whole x) k s f = refl
-symbolic-plain (variable v) k s f = absurd (f refl)
-symbolic-plain (call c) k s f = absurd s
-symbolic-plain (symbol x) k s f = refl
-
 -- no words, no terms
-pub childless : (f : Forest) → termCount f ≡ 0 → f ≡ nil
-childless nil c = refl
-childless (node l cs ss) c = absurd (let f : ⊥ = omega (arith, c) in f)
-
 no-words : (f : Forest) → length (encode f) ≡ 0 → termCount f ≡ 0
 no-words nil e = refl
 no-words (node l cs ss) e = absurd (let f : ⊥ = omega (arith, e) in f)

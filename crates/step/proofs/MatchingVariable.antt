@@ -20,23 +20,15 @@ use Rattle.minuska.specs.Rule.{symbolicAt}
 use Rattle.minuska.specs.Computed.Match.{sameTerm, assignNew, assignAt, assign}
 use Rattle.minuska.specs.Bridge.Place.{part, Stands, GroundAt, GroundEnds, BoundAt, Binds}
 use Rattle.minuska.proofs.Tests.{and-left, and-right, provided-true, same-term, term-same}
-use Rattle.minuska.proofs.WordLaw.{okay}
+use Rattle.minuska.proofs.WordLaw.{okay, childless}
 use Rattle.minuska.proofs.Bridge.PlaceLaw.{stands-second, stands-unique}
 use Rattle.minuska.proofs.Bridge.AppendedLaw.{first-words, labels}
 use Rattle.step.specs.Compare.{Comparison, apart, later, after, compareBound, compare}
 use Rattle.step.specs.Matching.{Walk, Walking, TurnFrom, Put, LeftTurned}
 use Rattle.step.specs.declared.matching.LeftTurn.the-variants.{Bind, Again, Misfit}
 use Rattle.step.proofs.CompareLaw.{later-later}
-use Rattle.step.proofs.MatchingLaw.{word, childless, has-part, heads, left-tag, left-datum, words-here, term-at}
-
--- the tag 3 is a variable's
-pub tag-three : (l : Label) (k : ℕ) → tagWord l k ≡ pos 3 → (v : ℕ) × (l ≡ variable v)
-tag-three error k e = absurd (let z : _≡_ {A = ℕ} 0 3 = ap natAbs e in let f : ⊥ = omega arith in f)
-tag-three (truth b) k e = absurd (let z : _≡_ {A = ℕ} 1 3 = ap natAbs e in let f : ⊥ = omega arith in f)
-tag-three (whole n) k e = absurd (let z : _≡_ {A = ℕ} 2 3 = ap natAbs e in let f : ⊥ = omega arith in f)
-tag-three (variable v) k e = (v, refl)
-tag-three (call c) k e = absurd (let z : _≡_ {A = ℕ} 4 3 = ap natAbs e in let f : ⊥ = omega arith in f)
-tag-three (symbol s) k e = absurd (let z : 8 + k ≡ 3 = ap natAbs e in let f : ⊥ = omega arith in f)
+use Rattle.step.proofs.TagLaw.{tag-three}
+use Rattle.step.proofs.MatchingLaw.{word, has-part, heads, left-tag, left-datum, words-here, term-at}
 
 module _ {table : List ℤ} {end : ℕ} {config : List ℤ} {i j : ℕ} {starts ends : List ℕ} {n : ℕ} {o : Comparison} where
   -- the walk is at a variable, if the tag says so

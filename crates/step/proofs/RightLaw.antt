@@ -20,7 +20,7 @@ use Rattle.minuska.specs.Bridge.Walk.{emit}
 use Rattle.minuska.specs.Bridge.Place.{Stands, part}
 use Rattle.minuska.proofs.Tests.{and-left, and-right, and-both}
 use Rattle.minuska.proofs.FunctionLaw.{every-value}
-use Rattle.minuska.proofs.WordLaw.{okay, okay-all, appended, encode-appended}
+use Rattle.minuska.proofs.WordLaw.{childless, okay, okay-all, appended, encode-appended}
 use Rattle.minuska.proofs.Bridge.AppendedLaw.{first-words, appended-ok}
 use Rattle.minuska.proofs.Bridge.ItemLaw.{variable-item, call-item, plain-item, term-appended}
 use Rattle.minuska.proofs.Bridge.PlaceLaw.{stands-first, stands-second, stands-head, stands-word}
@@ -31,25 +31,8 @@ use Rattle.value.specs.Value.{valueWords, Within, sizeOf, Ordered}
 use Rattle.value.specs.Evaluate.{HasValue, ExpressionIn, EvaluateContract}
 use Rattle.value.proofs.WordsLaw.{size-is, within-ordered}
 use Rattle.step.specs.Right.{Rest, SomeRest, LeadsOn, ItemOf, ItemIs, SizedOf, SizedIs, SomePiece, PieceIs, OneNodeIs}
-use Rattle.step.proofs.MatchingLaw.{word, childless}
-use Rattle.step.proofs.MatchingVariable.{tag-three}
-
--- ---- labels by their tag word
-tag-call : (l : Label) (k : ℕ) → tagWord l k ≡ pos 4 → (c : ℕ) × (role l ≡ aCall c)
-tag-call error k e = absurd (let z : _≡_ {A = ℕ} 0 4 = cc in let f : ⊥ = omega arith in f)
-tag-call (truth b) k e = absurd (let z : _≡_ {A = ℕ} 1 4 = cc in let f : ⊥ = omega arith in f)
-tag-call (whole x) k e = absurd (let z : _≡_ {A = ℕ} 2 4 = cc in let f : ⊥ = omega arith in f)
-tag-call (variable v) k e = absurd (let z : _≡_ {A = ℕ} 3 4 = cc in let f : ⊥ = omega arith in f)
-tag-call (call c) k e = (c, refl)
-tag-call (symbol s) k e = absurd (let z : 8 + k ≡ 4 = cc in let f : ⊥ = omega arith in f)
-
-tag-plain : (l : Label) (k : ℕ) → (tagWord l k ≡ pos 3 → ⊥) → (tagWord l k ≡ pos 4 → ⊥) → role l ≡ plain
-tag-plain error k f g = refl
-tag-plain (truth b) k f g = refl
-tag-plain (whole x) k f g = refl
-tag-plain (variable v) k f g = absurd (f refl)
-tag-plain (call c) k f g = absurd (g refl)
-tag-plain (symbol s) k f g = refl
+use Rattle.step.proofs.MatchingLaw.{word}
+use Rattle.step.proofs.TagLaw.{tag-three, tag-call, tag-plain}
 
 -- a node stands before the end, and its tag is read there
 first : {ws cs : List ℤ} {starts ends : List ℕ} {at end : ℕ} {ρ : Valuation} {X : Type 0} (f : Forest) {us : List ℤ} → at < end → Rest ws cs starts ends at end ρ f us → ((l : Label) (ls ss : Forest) → Rest ws cs starts ends at end ρ (node l ls ss) us → word ws at ≡ tagWord l (termCount ls) → X) → X
