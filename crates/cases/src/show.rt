@@ -126,7 +126,8 @@ fn truth(x: bool) {
 
 // A function's value: error, a truth value or a whole number.
 pub fn value(r: Root) {
-    match r.tag {
+    let tag = r.tag;
+    match tag {
         0 => text(b"error"),
         1 => truth(r.datum == 1),
         _ => whole(r.datum),

@@ -3,6 +3,8 @@
 // "A configuration is .. at most 32,768 nodes", and so is a limit of a run or a replay.
 pub const MAX_NODES: usize = 32768;
 
+pub const MAX_CONFIGURATION_WORDS: usize = 2 * MAX_NODES;
+
 // "A table starts with its rule count, 0 to 256." "At most 65,536 words."
 pub const MAX_RULES: usize = 256;
 
@@ -12,6 +14,8 @@ pub const MAX_TABLE_WORDS: usize = 65536;
 pub const MAX_CONDITIONS: usize = 8;
 
 pub const MAX_TERM_NODES: usize = 512;
+
+pub const MAX_TERM_WORDS: usize = 2 * MAX_TERM_NODES;
 
 // "action (0 to 65,535)"
 pub const MAX_ACTION: usize = 65535;

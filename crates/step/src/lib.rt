@@ -10,6 +10,8 @@ use minuska::INDEX_LEN;
 use minuska::Index;
 use minuska::Refusal;
 use minuska::StepAnswer;
+use minuska::limits::MAX_CONFIGURATION_WORDS;
+use minuska::limits::MAX_NODES;
 use right::Fit;
 ghost use mathlib.Core.Path.{_≡_};
 ghost use Prim.Native.Nat.{_≤_};
@@ -119,7 +121,11 @@ fn write_within<'a>(
 fn out_limit(words: usize) -> usize
     ensures { λ r. ⌜ r ≡ outLimit words ⌝ }
 {
-    if words < 65536 { words / 2 } else { 32768 }
+    if words < MAX_CONFIGURATION_WORDS {
+        words / 2
+    } else {
+        MAX_NODES
+    }
 }
 
 // Refusals 1 and 2, in order; where there is none, the index is the table's.

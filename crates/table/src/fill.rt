@@ -6,6 +6,8 @@ use crate::rule::Parts;
 use crate::rule::rule_parts;
 use minuska::Check;
 use minuska::Refusal;
+use minuska::limits::MAX_RULES;
+use minuska::limits::MAX_TABLE_WORDS;
 ghost use mathlib.Core.Path.{_≡_};
 ghost use Prim.Native.Nat.{_≤_};
 ghost use lib.ListN.{length};
@@ -22,11 +24,11 @@ pub fn fill(table: &[i64], index: &mut [u16], ranges: &[i64; 32]) -> Check
     if n == 0 {
         return Check::Refused(Refusal::BadTable);
     }
-    if 65536 < n {
+    if MAX_TABLE_WORDS < n {
         return Check::Refused(Refusal::BadTable);
     }
     let count = natural(term::word(table, 0));
-    if 256 < count {
+    if MAX_RULES < count {
         return Check::Refused(Refusal::BadTable);
     }
     let mut at = FIRST_RULE;

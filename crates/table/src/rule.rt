@@ -3,6 +3,8 @@ use crate::index::HEADER;
 use crate::node::Level;
 use crate::number::natural;
 use crate::walk::part_end;
+use minuska::limits::MAX_ACTION;
+use minuska::limits::MAX_CONDITIONS;
 use term::Place;
 ghost use mathlib.Core.Path.{_≡_};
 ghost use Rattle.term.specs.Datum.{groundRanges};
@@ -52,11 +54,11 @@ pub fn rule_parts(table: &[i64], at: usize, ranges: &[i64; 32]) -> Parts
     if n - HEADER < at {
         return Parts::Nowhere;
     }
-    if 65535 < natural(term::word(table, at)) {
+    if MAX_ACTION < natural(term::word(table, at)) {
         return Parts::Nowhere;
     }
     let count = natural(term::word(table, at + 1));
-    if 8 < count {
+    if MAX_CONDITIONS < count {
         return Parts::Nowhere;
     }
     let mut seen = [false; 16];

@@ -2,6 +2,7 @@
 use crate::expression::expressions_end;
 use crate::node::Level;
 use crate::side::side_end;
+use minuska::limits::MAX_TERM_WORDS;
 use term::Place;
 use term::VARIABLES;
 use term::ground::Ranges;
@@ -49,7 +50,7 @@ pub fn part_end(
     let Place::At(e) = term_end(table, at, kind, seen, ranges) else {
         return Place::Nowhere;
     };
-    if 1024 < e - at {
+    if MAX_TERM_WORDS < e - at {
         return Place::Nowhere;
     }
     Place::At(e)

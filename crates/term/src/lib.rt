@@ -1,4 +1,5 @@
 // Terms in words: a node's child count, the end of a term, the configuration check, the part that is a subterm.
+use minuska::limits::MAX_CONFIGURATION_WORDS;
 ghost use mathlib.Core.Path.{_≡_};
 ghost use Prim.Native.Nat.{_<_};
 ghost use lib.IntN.{pos};
@@ -124,7 +125,7 @@ pub fn check_configuration(words: &[i64]) -> Check
     ensures { λ r. ⌜ CheckConfigurationContract (now (words .entry)) r ⌝ }
 {
     let n = words.len();
-    if 65536 < n {
+    if MAX_CONFIGURATION_WORDS < n {
         return Check::Refused(Refusal::BadConfiguration);
     }
     let ranges = ground::RANGES;
