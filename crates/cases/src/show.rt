@@ -103,16 +103,18 @@ pub fn replayed(a: ReplayAnswer) {
 
 // A function's value: error, a truth value or a whole number.
 pub fn value(r: Root) {
-    match r.tag {
+    let tag = r.tag;
+    let datum = r.datum;
+    match tag {
         0 => text(b"error"),
         1 => {
-            if r.datum == 1 {
+            if datum == 1 {
                 text(b"true");
             } else {
                 text(b"false");
             }
         }
-        _ => whole(r.datum),
+        _ => whole(datum),
     }
 }
 
