@@ -127,10 +127,11 @@ fn truth(x: bool) {
 // A function's value: error, a truth value or a whole number.
 pub fn value(r: Root) {
     let tag = r.tag;
+    let datum = r.datum;
     match tag {
         0 => text(b"error"),
-        1 => truth(r.datum == 1),
-        _ => whole(r.datum),
+        1 => truth(datum == 1),
+        _ => whole(datum),
     }
 }
 

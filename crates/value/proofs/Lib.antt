@@ -11,3 +11,4 @@ pub mod ExpressionLaw
 pub mod GivenLaw
 pub mod MeantLaw
 pub mod ConditionLaw
+pub mod ShortLaw

@@ -47,7 +47,7 @@ pub roots-are : (xs : Forest) (a b d : Label) → a ≡ firstTerm xs .label → 
 roots-are xs a b d p q r c =
     rw (p, q, r) (rw (next-argument xs 0, next-argument xs 1, next-argument (restOf xs) 0, ← first-label xs, ← first-label (restOf xs), ← first-label (restOf (restOf xs))) refl)
 
-first-long : (es : Forest) → length (encode es) ≡ length (encode (firstOf es)) + length (encode (restOf es))
+pub first-long : (es : Forest) → length (encode es) ≡ length (encode (firstOf es)) + length (encode (restOf es))
 first-long nil = refl
 first-long (node l cs ss) = ap length (encode-first l cs ss) ∙ length-append (encode (node l cs nil)) (encode ss)
 

@@ -6,11 +6,11 @@ use Prim.Native.Nat.{ℕ, suc, _+_, _-_, _<_}
 use native.Mathlib.Omega.{arith}
 use lib.Dec.{T, leb}
 use lib.IntN.{ℤ, pos}
-use lib.ListN.{getD, length}
+use lib.ListN.{getD, length, take, drop}
 use borrow.Author.Tests.{le-leb}
 use Rattle.minuska.specs.Term.{Label, error, truth, whole, variable, call, symbol, nil, Term, single, termCount, role, groundAt, isGround}
 use Rattle.minuska.specs.Word.{tagWord, datumWord, ok, encode}
-use Rattle.minuska.specs.Bridge.Place.{part}
+use Rattle.minuska.specs.Bridge.Place.{part, Stands}
 use Rattle.minuska.proofs.Tests.{and-left}
 use Rattle.minuska.proofs.WordLaw.{okay}
 use Rattle.minuska.proofs.Bridge.PlaceLaw.{two-words}
@@ -47,13 +47,24 @@ pub record RootThere (ws : List ℤ) (at : ℕ) (t : Term) : Type 0 where
   pub room : at + 1 < length ws
   pub head : Head (rootAt ws at) (t .label) (termCount (t .children))
 
-pub root-there : (ws : List ℤ) (from to : ℕ) (t : Term) → T (ok (single t)) → T (isGround (single t)) → part ws from to ≡ encode (single t) → RootThere ws from t
+there : (ws : List ℤ) (at n : ℕ) (t : Term) → T (ok (single t)) → T (isGround (single t)) → take n (drop at ws) ≡ encode (single t) → RootThere ws at t
 unfolding rootAt
-root-there ws from to t o g e =
-    let w = two-words ws from (to - from) (tagWord (t .label) (termCount (t .children))) (datumWord (t .label)) (encode (t .children) ++ []) e in
+there ws at n t o g e =
+    let w = two-words ws at n (tagWord (t .label) (termCount (t .children))) (datumWord (t .label)) (encode (t .children) ++ []) e in
     let r = w .room in
-    record { room = omega arith; head = own-head t (rootAt ws from) o g (w .first) (w .second) }
+    record { room = omega arith; head = own-head t (rootAt ws at) o g (w .first) (w .second) }
+
+pub root-there : (ws : List ℤ) (from to : ℕ) (t : Term) → T (ok (single t)) → T (isGround (single t)) → part ws from to ≡ encode (single t) → RootThere ws from t
+root-there ws from to t o g e = there ws from (to - from) t o g e
+
+pub root-stands : (ws : List ℤ) (at : ℕ) (t : Term) → T (ok (single t)) → T (isGround (single t)) → Stands ws at (encode (single t)) → RootThere ws at t
+root-stands ws at t o g s = there ws at (length (encode (single t))) t o g (s .words)
+
+-- error's own words
+pub error-root : labelAt (pos 0) (pos 0) ≡ error
+unfolding labelAt
+error-root = refl
 
 -- the root of the term whose words are two
-pub own-root : (x y : ℤ) (t : Term) → T (ok (single t)) → T (isGround (single t)) → x ∷ y ∷ [] ≡ encode (single t) → Head (record { tag = x; datum = y }) (t .label) (termCount (t .children))
-own-root x y t o g e = own-head t (record { tag = x; datum = y }) o g (ap (λ (l : List ℤ). getD l 0 (pos 0)) e) (ap (λ (l : List ℤ). getD l 1 (pos 0)) e)
+pub own-root : (x y : ℤ) (t : Term) → T (ok (single t)) → T (isGround (single t)) → x ∷ y ∷ [] ≡ encode (single t) → Head (record { tag = x; gap = 0; datum = y }) (t .label) (termCount (t .children))
+own-root x y t o g e = own-head t (record { tag = x; gap = 0; datum = y }) o g (ap (λ (l : List ℤ). getD l 0 (pos 0)) e) (ap (λ (l : List ℤ). getD l 1 (pos 0)) e)

@@ -23,7 +23,7 @@ labelAt (negsuc n) d = error
 
 -- the two words of a leaf with this label
 unfoldable pub rootOf : Label → Root
-rootOf l = record { tag = tagWord l 0; datum = datumWord l }
+rootOf l = record { tag = tagWord l 0; gap = 0; datum = datumWord l }
 
 -- three arguments that are leaves
 abbrev pub leaves : Label → Label → Label → Forest

@@ -2,4 +2,5 @@ pub mod Builtin
 pub mod Value
 pub mod Root
 pub mod Evaluate
+pub mod Short
 pub mod Copy

@@ -22,7 +22,7 @@ pub record Head (r : Root) (l : Label) (k : ℕ) : Type 0 where
 
 -- the two words at a place
 unfoldable pub rootAt : List ℤ → ℕ → Root
-rootAt ws at = record { tag = getD ws at (pos 0); datum = getD ws (at + 1) (pos 0) }
+rootAt ws at = record { tag = getD ws at (pos 0); gap = 0; datum = getD ws (at + 1) (pos 0) }
 
 -- a value is some term; whatever term it is, r is its root
 pub record ValueIn (table config : List ℤ) (v : Value) : Type 0 where

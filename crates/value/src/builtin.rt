@@ -11,9 +11,11 @@ ghost use Rattle.minuska.specs.Term.{error, truth, whole};
 ghost use Rattle.minuska.specs.Function.{inWord, shareRange};
 ghost use Rattle.value.specs.Builtin.{labelAt, rootOf, applied};
 
-// The root of a term: the two words of its first node.
+// The root of a term: the two words of its first node. The gap lies between them: they are written one by one, and would else be read back as one, for which a
+// machine has to wait.
 pub struct Root {
     pub tag: i64,
+    pub gap: usize,
     pub datum: i64,
 }
 
@@ -40,7 +42,11 @@ pub fn apply(code: usize, a: i64, x: i64, b: i64, y: i64, c: i64, z: i64) -> Roo
 pub fn an_error() -> Root
     ensures { λ r. ⌜ r ≡ rootOf error ⌝ }
 {
-    Root { tag: 0, datum: 0 }
+    Root {
+        tag: 0,
+        gap: 0,
+        datum: 0,
+    }
 }
 
 pub fn a_truth(b: bool) -> Root
@@ -49,11 +55,13 @@ pub fn a_truth(b: bool) -> Root
     if b {
         return Root {
             tag: TRUTH,
+            gap: 0,
             datum: 1,
         };
     }
     Root {
         tag: TRUTH,
+        gap: 0,
         datum: 0,
     }
 }
@@ -63,6 +71,7 @@ pub fn a_whole(z: i64) -> Root
 {
     Root {
         tag: WHOLE,
+        gap: 0,
         datum: z,
     }
 }

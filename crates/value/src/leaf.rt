@@ -43,6 +43,7 @@ pub fn root(table: &[i64], configuration: &[i64], v: Value) -> Root
         Value::Configuration(start, _) => root_at(configuration, start),
         Value::Computed(tag, datum) => Root {
             tag: tag,
+            gap: 0,
             datum: datum,
         },
     }
@@ -57,6 +58,7 @@ pub fn root_at(s: &[i64], at: usize) -> Root
     let datum = term::word(s, at + 1);
     Root {
         tag: tag,
+        gap: 0,
         datum: datum,
     }
 }

@@ -13,6 +13,7 @@ ghost use Rattle.value.specs.Copy.{PutContract};
 pub mod builtin; // the fifteen functions
 mod expression; // a call's value and its argument list
 mod leaf; // values that need no recursion
+mod short; // calls whose value needs no recursion
 mod same; // whether two values are the same
 
 // Where a value is: a part of the table or of the configuration, from a place up to another; or two words, tag and datum, that were computed.
@@ -76,7 +77,7 @@ pub fn size(v: Value) -> usize
 }
 
 // Whether the side condition that stands at a place, two expressions one behind the other, holds. A second side that is a literal without children is compared
-// with the first's root.
+// with the first's root; a first side that is a short call is evaluated here.
 pub fn condition<'a>(
     table: &'a [i64],
     configuration: &'a [i64],
@@ -87,6 +88,21 @@ pub fn condition<'a>(
     requires { ⌜ ConditionIn (now table) (now configuration) (now starts) (now ends) at ⌝ }
     ensures { λ r. ⌜ ConditionContract (now (table .entry)) (now (configuration .entry)) (now (starts .entry)) (now (ends .entry)) at r ⌝ }
 {
+    if term::word(table, at) == CALL {
+        if short::is_short_call(table, at) {
+            let behind = at + 6;
+            if term::word(table, behind) < VARIABLE {
+                let r = short::short_call(table, configuration, at, starts);
+                let v = leaf::given(r);
+                let agrees = same::is_node(table, configuration, v, behind);
+                let over = behind + 2;
+                return Tested {
+                    holds: agrees,
+                    next: over,
+                };
+            }
+        }
+    }
     let first = evaluate(table, configuration, at, starts, ends);
     let next = first.next;
     let x = first.value;

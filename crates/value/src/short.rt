@@ -1,0 +1,49 @@
+// A call of two arguments that are variables or literals without children, as most calls are: its value needs no recursion.
+use crate::CALL;
+use crate::VARIABLE;
+use crate::builtin::Root;
+use crate::builtin::apply;
+use crate::leaf::root_at;
+ghost use mathlib.Core.Path.{_≡_};
+ghost use mathlib.Core.Bool.{true};
+ghost use Rattle.value.specs.Short.{CallThere, Short, ShortIn, ShortContract, ArgumentIn, ArgumentContract};
+
+// Whether the call that stands at a place is such a call.
+pub fn is_short_call(table: &[i64], at: usize) -> bool
+    requires { ⌜ CallThere (now table) at ⌝ }
+    ensures { λ r. ⌜ (r ≡ true → Short (now (table .entry)) at) ⌝ }
+{
+    let code = term::word(table, at + 1) as usize;
+    let count = term::arity(code);
+    if count != 2 {
+        return false;
+    }
+    if term::word(table, at + 2) < CALL {
+        return term::word(table, at + 4) < CALL;
+    }
+    false
+}
+
+// The root of its value.
+pub fn short_call(table: &[i64], configuration: &[i64], at: usize, starts: &[usize; 16]) -> Root
+    requires { ⌜ ShortIn (now table) (now configuration) (now starts) at ⌝ }
+    ensures { λ r. ⌜ ShortContract (now (table .entry)) (now (configuration .entry)) (now (starts .entry)) at r ⌝ }
+{
+    let code = term::word(table, at + 1) as usize;
+    let a = short_root(table, configuration, at + 2, starts);
+    let b = short_root(table, configuration, at + 4, starts);
+    apply(code, a.tag, a.datum, b.tag, b.datum, 0, 0)
+}
+
+// The root of such an argument's value.
+fn short_root(table: &[i64], configuration: &[i64], at: usize, starts: &[usize; 16]) -> Root
+    requires { ⌜ ArgumentIn (now table) (now configuration) (now starts) at ⌝ }
+    ensures { λ r. ⌜ ArgumentContract (now (table .entry)) (now (configuration .entry)) (now (starts .entry)) at r ⌝ }
+{
+    if term::word(table, at) == VARIABLE {
+        let v = term::word(table, at + 1) as usize;
+        let start = starts[v];
+        return root_at(configuration, start);
+    }
+    root_at(table, at)
+}
