@@ -19,7 +19,7 @@ use Rattle.minuska.specs.declared.StepAnswer.the-variants as S
 use Rattle.minuska.specs.Answer.{Outcome, gives, StepResult, stuck}
 use Rattle.minuska.specs.Computed.Match.{tryMatch, unbound}
 use Rattle.minuska.specs.Computed.Value.{value, holdAll}
-use Rattle.minuska.specs.Computed.Step.{successor, successorBy, answered, withNumber, sized, actionIn, orNext, firstOf, earliest, order, step}
+use Rattle.minuska.specs.Computed.Step.{successor, successorBy, answered, withNumber, sized, actionIn, orNext, firstOf, order, step}
 use Rattle.minuska.specs.Computed.Outcome.{ruleOutcome, stepOutcome}
 use Rattle.minuska.specs.Bridge.Place.{Indexed, Names, Accepted, RuleCountIs, OrderedIs, Positions, SeekIs}
 use Rattle.minuska.specs.Contract.{StepByRuleContract, StepContract}

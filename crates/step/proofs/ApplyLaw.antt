@@ -1,10 +1,10 @@
 -- One rule at one configuration, put together: its outcome, its verdict and its successor.
-use mathlib.Core.Path.{_≡_, refl, sym, _∙_, ap, subst}
+use mathlib.Core.Path.{_≡_, refl, sym, _∙_, ap}
 use mathlib.Core.Bool.{Bool, true, false, cond}
 use mathlib.Core.Logic.{_⊎_, inl, inr, ⊎-elim, _↔_}
 use mathlib.Core.Option.{Option, none, some, Option·none-ne-some}
 use mathlib.Core.List.{List, [], _∷_}
-use Prim.Native.Nat.{ℕ, zero, suc, _*_, _/_, _≤_, _<_}
+use Prim.Native.Nat.{ℕ, zero, suc, _*_, _≤_, _<_}
 use native.Mathlib.Omega.{arith}
 use lib.IntN.{ℤ}
 use lib.Dec.{leb}
@@ -16,13 +16,12 @@ use Rattle.minuska.specs.Word.{encode}
 use Rattle.minuska.specs.Satisfaction.{Valuation}
 use Rattle.minuska.specs.Rule.{Rule, Table, IsTable, IsConfiguration}
 use Rattle.minuska.specs.Slice.{outLimit, stepAnswer, stepOut, write}
-use Rattle.minuska.specs.declared.StepAnswer.{StepAnswer}
 use Rattle.minuska.specs.declared.StepAnswer.the-variants as S
 use Rattle.minuska.specs.declared.Refusal.the-variants.{OverLimit}
-use Rattle.minuska.specs.Answer.{Outcome, gives, StepResult, stepped, stuck, tooLarge}
+use Rattle.minuska.specs.Answer.{Outcome, gives, StepResult, stepped, tooLarge}
 use Rattle.minuska.specs.Computed.Match.{tryMatch, unbound}
 use Rattle.minuska.specs.Computed.Value.{value, holdAll}
-use Rattle.minuska.specs.Computed.Step.{successor, successorBy, answered, withNumber, sized, actionIn, stepByRule}
+use Rattle.minuska.specs.Computed.Step.{successor, successorBy, answered, withNumber, sized, stepByRule}
 use Rattle.minuska.specs.Computed.Outcome.{ruleOutcome}
 use Rattle.minuska.proofs.ShutLaw.{step-by-rule-is, rule-outcome-is}
 use Rattle.minuska.proofs.OutcomeLaw.{on-words}
@@ -35,8 +34,7 @@ use Rattle.step.specs.declared.right.Fit.{Fit}
 use Rattle.step.specs.declared.right.Fit.the-variants.{Words, TooLarge}
 use Rattle.step.specs.declared.how_far.HowFar.{HowFar}
 use Rattle.step.specs.declared.how_far.HowFar.the-variants.{All, Until}
-use Rattle.step.specs.declared.rule.Verdict.{Verdict}
-use Rattle.step.specs.declared.rule.Verdict.the-variants.{Misfit, Fails, Applies}
+use Rattle.step.specs.declared.rule.Verdict.the-variants.{Applies}
 use Rattle.step.specs.Compare.{Comparison, agreed, apart, comparison, passedBy, boundBy}
 use Rattle.step.specs.Conditions.{allOf, heldBy}
 use Rattle.step.specs.Apply.{Candidate, fitOf, instantiatedAs, instantiatedOut, verdictHeld, verdictBy, verdictOf}

@@ -7,7 +7,7 @@ use native.Mathlib.Omega.{arith}
 use lib.Dec.{T}
 use lib.IntN.{ℤ}
 use Rattle.minuska.specs.Basics.{_>>=_, sameWhole}
-use Rattle.minuska.specs.Term.{Label, Forest, nil, node, Term, termCount, nodes, Role, aVariable, aCall, plain, role}
+use Rattle.minuska.specs.Term.{Label, Forest, nil, node, termCount, nodes, Role, aVariable, aCall, plain, role}
 use Rattle.minuska.specs.Word.{tagWord, datumWord, okHead, ok}
 use Rattle.minuska.specs.Satisfaction.{Valuation}
 use Rattle.minuska.specs.Computed.Read.{readNode}

@@ -1,10 +1,9 @@
 -- A rule's conditions, one after the other: the turns of `hold_all`.
 use mathlib.Core.Path.{_≡_, refl, sym, _∙_, ap, subst}
 use mathlib.Core.Bool.{Bool, true, false, _&&_, cond}
-use mathlib.Core.Option.{some}
 use mathlib.Core.List.{List, [], _∷_, _++_}
 use Prim.Native.Nat.{ℕ, _+_, _≤_, _<_}
-use native.Mathlib.Nat.{add-assoc, add-zero, zero-add}
+use native.Mathlib.Nat.{add-zero, zero-add}
 use native.Mathlib.Omega.{arith}
 use lib.IntN.{ℤ}
 use lib.ListN.{length, length-append}
@@ -13,13 +12,13 @@ use Rattle.minuska.specs.Word.{encode}
 use Rattle.minuska.specs.Satisfaction.{Valuation, SideCondition}
 use Rattle.minuska.specs.Rule.{conditionWords}
 use Rattle.minuska.specs.Computed.Value.{holds, holdAll}
-use Rattle.minuska.specs.Bridge.Place.{Stands, Binds}
+use Rattle.minuska.specs.Bridge.Place.{Stands}
 use Rattle.minuska.proofs.Bridge.PlaceLaw.{stands-first, stands-second}
 use Rattle.value.specs.declared.Tested.{Tested}
-use Rattle.value.specs.Evaluate.{Placed, HasValue, ConditionAt, ConditionIn, ConditionContract}
+use Rattle.value.specs.Evaluate.{HasValue, ConditionAt, ConditionIn, ConditionContract}
 use Rattle.step.specs.declared.how_far.HowFar.{HowFar}
 use Rattle.step.specs.declared.how_far.HowFar.the-variants.{All, Until}
-use Rattle.step.specs.Conditions.{allOf, furtherBy, heldBy, SideWorth, SidesWorth, StandingConditions, SomeConditions, HoldAllIs}
+use Rattle.step.specs.Conditions.{allOf, furtherBy, heldBy, SideWorth, StandingConditions, SomeConditions, HoldAllIs}
 
 -- ---- how far conditions hold
 further-none : (p : HowFar) → furtherBy 0 p ≡ p

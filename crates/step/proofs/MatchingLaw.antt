@@ -1,8 +1,8 @@
 -- One turn of the walk over a left and a configuration, over terms: what it finds keeps the outcome of the match.
 use mathlib.Core.Path.{_≡_, refl, sym, _∙_, ap, ap₂, subst, subst⁻¹}
-use mathlib.Core.Bool.{Bool, true, false, _&&_, cond}
-use mathlib.Core.Option.{Option, none, some, Option·some-injective}
-use mathlib.Core.List.{List, [], _∷_, _++_, append-nil}
+use mathlib.Core.Bool.{Bool, true, false, _&&_}
+use mathlib.Core.Option.{Option, none, some}
+use mathlib.Core.List.{List, [], _∷_, _++_}
 use Prim.Native.Nat.{ℕ, _+_, _-_, _<_, _≤_}
 use native.Mathlib.Nat.{add-zero}
 use native.Mathlib.Omega.{arith}
@@ -12,14 +12,14 @@ use lib.ListN.{length, getD, length-append}
 use mir.Syntax.{w64}
 use mir.Val.{SFits, ofZ}
 use Rattle.term.proofs.SignedLaw.{same-bits}
-use Rattle.minuska.specs.Basics.{_>>=_, sameWhole}
+use Rattle.minuska.specs.Basics.{sameWhole}
 use Rattle.minuska.specs.Term.{Label, Forest, nil, node, Term, single, termCount, plain, role, groundAt}
-use Rattle.minuska.specs.Word.{tagWord, datumWord, okHead, ok, encode}
+use Rattle.minuska.specs.Word.{tagWord, datumWord, encode}
 use Rattle.minuska.specs.Satisfaction.{Valuation}
-use Rattle.minuska.specs.Rule.{symbolicAt, isSymbolic}
+use Rattle.minuska.specs.Rule.{symbolicAt}
 use Rattle.minuska.specs.Bridge.Place.{Stands, GroundAt, GroundEnds}
 use Rattle.minuska.proofs.Tests.{same-whole, whole-same}
-use Rattle.minuska.proofs.WordLaw.{childless, okay, okay-all, head-okay, read-node, appended, encode-appended}
+use Rattle.minuska.proofs.WordLaw.{childless, okay, okay-all, head-okay, appended, encode-appended}
 use Rattle.minuska.proofs.Bridge.PlaceLaw.{stands-word, stands-head, stands-first, stands-second, stands-unique}
 use Rattle.minuska.proofs.Bridge.AppendedLaw.{first-words, appended-count, appended-ok, labels, labels-all, appended-labels}
 use Rattle.step.specs.Compare.{Comparison, apart, later, compare}

@@ -13,7 +13,7 @@ use lib.Signed.{nonNeg}
 use lib.ListN.{length, take, drop, getD, length-append}
 use borrow.Author.Tests.{eq-eqb, ne-eqb}
 use Rattle.minuska.specs.Basics.{provided}
-use Rattle.minuska.specs.Term.{Label, error, truth, whole, variable, call, symbol, Forest, nil, node, Term, single, termCount, role, groundAt}
+use Rattle.minuska.specs.Term.{Label, variable, Forest, nil, node, Term, single, termCount, role, groundAt}
 use Rattle.minuska.specs.Word.{tagWord, datumWord, okNode, encode}
 use Rattle.minuska.specs.Satisfaction.{Valuation}
 use Rattle.minuska.specs.Rule.{symbolicAt}

@@ -10,7 +10,7 @@ use lib.IntN.{ℤ, pos, natAbs}
 use lib.ListN.{length, take, drop, getD, length-append}
 use lib.Signed.{nonNeg}
 use Rattle.minuska.specs.Basics.{_>>=_}
-use Rattle.minuska.specs.Term.{Label, error, truth, whole, variable, call, symbol, Forest, nil, node, Term, single, leaf, termCount, Role, aCall, plain, role, isGround}
+use Rattle.minuska.specs.Term.{Label, whole, variable, call, Forest, nil, node, Term, single, leaf, termCount, Role, plain, role, isGround}
 use Rattle.minuska.specs.Word.{okNode, tagWord, datumWord, encode}
 use Rattle.minuska.specs.Function.{inWord, shareRange, outOfRange, interpret}
 use Rattle.minuska.specs.Satisfaction.{Valuation}

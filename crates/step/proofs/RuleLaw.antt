@@ -21,7 +21,7 @@ use Rattle.minuska.proofs.StepLaw.{rule-okay}
 use Rattle.minuska.proofs.MatchLaw.{match-sound, matches-binds}
 use Rattle.minuska.proofs.ConditionLaw.{has-value}
 use Rattle.minuska.proofs.Bridge.WriteLaw.{emit-values}
-use Rattle.step.specs.Apply.{Candidate, Matched, SomeMatched, MatchIs, HoldIs, MeasureIs, WordsFit, WriteIs}
+use Rattle.step.specs.Apply.{Matched, SomeMatched, MatchIs, HoldIs, MeasureIs, WordsFit, WriteIs}
 use Rattle.step.specs.Matching.{IsLeft, LeftIn, MatchContract}
 use Rattle.step.specs.Conditions.{SidesWorth, StandingConditions, SomeConditions, HoldAllIs}
 use Rattle.step.specs.Right.{Rest, SomeRest, MeasureRightIs, FittingRest, WriteRightIs}

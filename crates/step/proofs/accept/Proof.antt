@@ -2,10 +2,6 @@ use Rattle.step.proofs.AcceptLaw.{good-accepted, refused-accepted}
 use borrow.Author.Needs.{needs}
 use Rattle.step.proofs.accept.Statement.{statement}
 use Rattle.step.proofs.accept.Tie as tie
-use Rattle.step.proofs.accept.Reads as reads
-use Rattle.step.proofs.accept.Lts as lts
-use Rattle.table.proofs.index_table.Reads as index-table-reads
-use Rattle.term.proofs.check_configuration.Reads as check-configuration-reads
 
 -- src/lib.rt:153:11
 index-table-requires : tie.Need-index-table-requires

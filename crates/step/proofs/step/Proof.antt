@@ -3,10 +3,6 @@ use Rattle.step.proofs.AcceptLaw.{refused-step}
 use borrow.Author.Needs.{needs}
 use Rattle.step.proofs.step.Statement.{statement}
 use Rattle.step.proofs.step.Tie as tie
-use Rattle.step.proofs.step.Reads as reads
-use Rattle.step.proofs.step.Lts as lts
-use Rattle.step.proofs.accept.Reads as accept-reads
-use Rattle.step.proofs.apply_earliest.Reads as apply-earliest-reads
 
 -- src/lib.rt:176:11
 accept-requires : tie.Need-accept-requires

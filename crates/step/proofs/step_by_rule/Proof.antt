@@ -3,10 +3,6 @@ use Rattle.step.proofs.AcceptLaw.{refused-by-rule}
 use borrow.Author.Needs.{needs}
 use Rattle.step.proofs.step_by_rule.Statement.{statement}
 use Rattle.step.proofs.step_by_rule.Tie as tie
-use Rattle.step.proofs.step_by_rule.Reads as reads
-use Rattle.step.proofs.step_by_rule.Lts as lts
-use Rattle.step.proofs.accept.Reads as accept-reads
-use Rattle.step.proofs.apply_rule.Reads as apply-rule-reads
 
 -- src/lib.rt:165:11
 accept-requires : tie.Need-accept-requires

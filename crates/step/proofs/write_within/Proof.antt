@@ -1,4 +1,4 @@
-use mathlib.Core.Path.{_≡_, subst}
+use mathlib.Core.Path.{subst}
 use Prim.Native.Nat.{ℕ, _*_}
 use lib.ListN.{length}
 use Rattle.minuska.specs.Slice.{outLimit}
@@ -7,12 +7,6 @@ use Rattle.step.proofs.WaysLaw.{way-large, fits-out, way-stepped}
 use borrow.Author.Needs.{needs}
 use Rattle.step.proofs.write_within.Statement.{statement}
 use Rattle.step.proofs.write_within.Tie as tie
-use Rattle.step.proofs.write_within.Reads as reads
-use Rattle.step.proofs.write_within.Lts as lts
-use Rattle.step.proofs.out_limit.Reads as out-limit-reads
-use Rattle.step.proofs.rule.measure.Reads as measure-reads
-use Rattle.step.proofs.rule.write_successor.Reads as write-successor-reads
-use Rattle.table.proofs.action.Reads as action-reads
 
 -- the measure, at the room that the out slice gives
 measured : (m : tie.After-measure) →

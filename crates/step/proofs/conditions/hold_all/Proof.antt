@@ -4,9 +4,6 @@ use borrow.Author.Tests.{not-true, not-false}
 use Rattle.step.proofs.ConditionsLaw.{Holding, holding-first, all-held, condition-needs, holding-on, not-held, holding-forward}
 use Rattle.step.proofs.conditions.hold_all.Statement.{statement}
 use Rattle.step.proofs.conditions.hold_all.Tie as tie
-use Rattle.step.proofs.conditions.hold_all.Reads as reads
-use Rattle.step.proofs.conditions.hold_all.Lts as lts
-use Rattle.value.proofs.condition.Reads as condition-reads
 
 abbrev Inv-loop : tie.InvT-loop
 Inv-loop table configuration at end starts ends i₀ held₀ i held = (held ≤ i) × Holding table configuration starts ends at end i held

@@ -2,14 +2,9 @@ use mathlib.Core.Path.{_≡_, refl, _∙_}
 use Prim.Native.Nat.{_-_}
 use native.Mathlib.Omega.{arith}
 use lib.ListN.{length}
-use borrow.Author.Needs.{needs}
 use Rattle.step.proofs.RightLoopLaw.{Writing, writing-first, writing-rest, all-written, writing-on, writing-room, writing-forward}
 use Rattle.step.proofs.right.write_right.Statement.{statement}
 use Rattle.step.proofs.right.write_right.Tie as tie
-use Rattle.step.proofs.right.write_right.Reads as reads
-use Rattle.step.proofs.right.write_right.Lts as lts
-use Rattle.step.proofs.right.item.Reads as item-reads
-use Rattle.value.proofs.put.Reads as put-reads
 
 abbrev Inv-loop : tie.InvT-loop
 Inv-loop table configuration at end starts ends out₀ i₀ o₀ out i o = (length out ≡ length out₀) × Writing table configuration starts ends at end out₀ i o out
