@@ -1,8 +1,8 @@
 -- One turn of the walk over a left and a configuration, over terms: what it finds keeps the outcome of the match.
 use mathlib.Core.Path.{_≡_, refl, sym, _∙_, ap, ap₂, subst, subst⁻¹}
-use mathlib.Core.Bool.{Bool, true, false, _&&_, cond}
-use mathlib.Core.Option.{Option, none, some, Option·some-injective}
-use mathlib.Core.List.{List, [], _∷_, _++_, append-nil}
+use mathlib.Core.Bool.{Bool, true, false, _&&_}
+use mathlib.Core.Option.{Option, none, some}
+use mathlib.Core.List.{List, [], _∷_, _++_}
 use Prim.Native.Nat.{ℕ, _+_, _-_, _<_, _≤_}
 use native.Mathlib.Nat.{add-zero}
 use native.Mathlib.Omega.{arith}
@@ -12,14 +12,16 @@ use lib.ListN.{length, getD, length-append}
 use mir.Syntax.{w64}
 use mir.Val.{SFits, ofZ}
 use Rattle.term.proofs.SignedLaw.{same-bits}
-use Rattle.minuska.specs.Basics.{_>>=_, sameWhole}
-use Rattle.minuska.specs.Term.{Label, error, truth, whole, variable, call, symbol, Forest, nil, node, Term, single, termCount, plain, role, groundAt}
-use Rattle.minuska.specs.Word.{tagWord, datumWord, okHead, ok, encode}
+use Rattle.minuska.specs.Basics.{sameWhole}
+use Rattle.minuska.specs.Term.{Label, Forest, nil, node, Term, single, termCount, Role, aVariable, aCall, plain, role, groundAt}
+use Rattle.minuska.specs.Computed.Read.{variableTag}
+use Rattle.minuska.specs.Word.{tagWord, datumWord, okHead, encode}
 use Rattle.minuska.specs.Satisfaction.{Valuation}
-use Rattle.minuska.specs.Rule.{symbolicAt, isSymbolic}
+use Rattle.minuska.specs.Rule.{symbolicAt}
 use Rattle.minuska.specs.Bridge.Place.{Stands, GroundAt, GroundEnds}
 use Rattle.minuska.proofs.Tests.{same-whole, whole-same}
-use Rattle.minuska.proofs.WordLaw.{okay, okay-all, head-okay, read-node, appended, encode-appended}
+use Rattle.minuska.proofs.NodeLaw.{NodeIs, node-is}
+use Rattle.minuska.proofs.WordLaw.{okay, okay-all, head-okay, appended, encode-appended}
 use Rattle.minuska.proofs.Bridge.PlaceLaw.{stands-word, stands-head, stands-first, stands-second, stands-unique}
 use Rattle.minuska.proofs.Bridge.AppendedLaw.{first-words, appended-count, appended-ok, labels, labels-all, appended-labels}
 use Rattle.step.specs.Compare.{Comparison, apart, later, compare}
@@ -49,14 +51,14 @@ is-same a b e = pick (sameWhole a b) (subst (λ (x : ℤ). T (sameWhole a x)) e 
     pick true h = refl
     pick false h = absurd h
 
--- a left's label is a variable's, with tag 3, or plain
-symbolic-plain : (l : Label) (k : ℕ) → T (symbolicAt (role l)) → (tagWord l k ≡ pos 3 → ⊥) → role l ≡ plain
-symbolic-plain error k s f = refl
-symbolic-plain (truth b) k s f = refl
-symbolic-plain (whole x) k s f = refl
-symbolic-plain (variable v) k s f = absurd (f refl)
-symbolic-plain (call c) k s f = absurd s
-symbolic-plain (symbol x) k s f = refl
+-- a left's label is a variable's, with its tag, or plain
+symbolic-plain : (l : Label) (k : ℕ) → T (okHead l k) → T (symbolicAt (role l)) → (tagWord l k ≡ pos variableTag → ⊥) → role l ≡ plain
+symbolic-plain l k x s f = pick (role l) refl s (node-is l k x)
+  where
+    pick : (r : Role) → role l ≡ r → T (symbolicAt r) → NodeIs r (tagWord l k) (datumWord l) k → role l ≡ plain
+    pick (aVariable v) q s n = absurd (f (n .tag))
+    pick (aCall c) q s n = absurd s
+    pick plain q s n = q
 
 -- no words, no terms
 pub childless : (f : Forest) → termCount f ≡ 0 → f ≡ nil
@@ -114,10 +116,10 @@ module _ {table : List ℤ} {end : ℕ} {config : List ℤ} {i j : ℕ} {starts 
 
     -- ---- a plain node
     -- the label is plain, as the tag says
-    plain-role : (word table i ≡ pos 3 → ⊥) → role l ≡ plain
-    plain-role f = symbolic-plain l (termCount ls) (labels (λ z. symbolicAt (role z)) l ls lss (w .leftSymbolic) .here) (λ p. f (left-tag ∙ p))
+    plain-role : (word table i ≡ pos variableTag → ⊥) → role l ≡ plain
+    plain-role f = symbolic-plain l (termCount ls) (head-okay l ls (okay l ls lss (w .leftGood) .allowed)) (labels (λ z. symbolicAt (role z)) l ls lss (w .leftSymbolic) .here) (λ p. f (left-tag ∙ p))
 
-    after-same : (word table i ≡ pos 3 → ⊥) → word table i ≡ word config j → word table (i + 1) ≡ word config (j + 1) → Walking table end config (n + 1) (i + 2) (j + 2) starts ends o
+    after-same : (word table i ≡ pos variableTag → ⊥) → word table i ≡ word config j → word table (i + 1) ≡ word config (j + 1) → Walking table end config (n + 1) (i + 2) (j + 2) starts ends o
     after-same f p q =
         let p′ : tagWord l (termCount ls) ≡ tagWord g (termCount gs) = sym left-tag ∙ (p ∙ ground-tag) in
         let q′ : datumWord l ≡ datumWord g = sym left-datum ∙ (q ∙ ground-datum) in
@@ -152,7 +154,7 @@ module _ {table : List ℤ} {end : ℕ} {config : List ℤ} {i j : ℕ} {starts 
           };
         }
 
-    after-other : (word table i ≡ pos 3 → ⊥) → (word table i ≡ word config j → word table (i + 1) ≡ word config (j + 1) → ⊥) → o ≡ apart n
+    after-other : (word table i ≡ pos variableTag → ⊥) → (word table i ≡ word config j → word table (i + 1) ≡ word config (j + 1) → ⊥) → o ≡ apart n
     after-other f h = pick (sameWhole (tagWord l (termCount ls)) (tagWord g (termCount gs))) (sameWhole (datumWord l) (datumWord g)) refl refl
       where
         stopped : sameWhole (tagWord l (termCount ls)) (tagWord g (termCount gs)) && sameWhole (datumWord l) (datumWord g) ≡ false → o ≡ apart n
@@ -167,7 +169,7 @@ module _ {table : List ℤ} {end : ℕ} {config : List ℤ} {i j : ℕ} {starts 
         pick false b p q = stopped (ap (λ (z : Bool). z && sameWhole (datumWord l) (datumWord g)) p)
 
 -- ---- what one turn answers at a plain node
-module _ {table : List ℤ} {i end : ℕ} {config : List ℤ} {j : ℕ} {starts ends : List ℕ} (plain : word table i ≡ pos 3 → ⊥) where
+module _ {table : List ℤ} {i end : ℕ} {config : List ℤ} {j : ℕ} {starts ends : List ℕ} (plain : word table i ≡ pos variableTag → ⊥) where
   pub turned-same : word table i ≡ word config j → word table (i + 1) ≡ word config (j + 1) → LeftTurned table i end config j starts ends Same
   turned-same p q = record { after = λ n o h w. heads w h (λ l ls lss g gs gss σ k. after-same l ls lss g gs gss σ k plain p q) }
 
