@@ -1,4 +1,3 @@
-pub mod WalkLaw
 pub mod WriteLaw
 pub mod ItemLaw
 pub mod AppendedLaw

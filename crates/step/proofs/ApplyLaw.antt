@@ -1,4 +1,4 @@
--- One rule at one configuration, put together: what each way out of `try_rule` says of the outcome.
+-- One rule at one configuration, put together: its outcome, its verdict and its successor.
 use mathlib.Core.Path.{_≡_, refl, sym, _∙_, ap, subst}
 use mathlib.Core.Bool.{Bool, true, false, cond}
 use mathlib.Core.Logic.{_⊎_, inl, inr, ⊎-elim, _↔_}
@@ -24,13 +24,9 @@ use Rattle.minuska.specs.Computed.Match.{tryMatch, unbound}
 use Rattle.minuska.specs.Computed.Value.{value, holdAll}
 use Rattle.minuska.specs.Computed.Step.{successor, successorBy, answered, withNumber, sized, actionIn, stepByRule}
 use Rattle.minuska.specs.Computed.Outcome.{ruleOutcome}
-use Rattle.minuska.specs.Bridge.Place.{Indexed, Accepted}
-use Rattle.minuska.specs.Contract.{StepByRuleContract}
 use Rattle.minuska.proofs.ShutLaw.{step-by-rule-is, rule-outcome-is}
 use Rattle.minuska.proofs.OutcomeLaw.{on-words}
-use Rattle.minuska.proofs.ContractLaw.{step-by-rule-contract}
 use Rattle.minuska.proofs.Bridge.AcceptedLaw.{term-length}
-use Rattle.minuska.proofs.Bridge.PositionLaw.{element-there}
 use Rattle.minuska.proofs.Good.{good}
 use Rattle.minuska.proofs.StepLaw.{rule-okay}
 use Rattle.minuska.proofs.MatchLaw.{match-sound, matches-binds}
@@ -163,6 +159,3 @@ past-none (r ∷ t) (suc n) h = past-none t n (omega arith)
 module _ (ws cs : List ℤ) (n : ℕ) (t : Table) (g : Term) (p : IsTable ws t) (q : IsConfiguration cs g) where
   pub past-successor : length t ≤ n → successorBy t n g ≡ none
   past-successor h = ap (λ (z : Option Rule). z >>= λ r. successor r g) (past-none t n h)
-
-  pub named : n < length t → (rule : Rule) × Candidate ws cs n rule g
-  named h = let r = element-there t n h in (r .0, record { table = t; is = p; numbered = r .1; configuration = q })

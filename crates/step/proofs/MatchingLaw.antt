@@ -21,7 +21,7 @@ use Rattle.minuska.specs.Rule.{symbolicAt}
 use Rattle.minuska.specs.Bridge.Place.{Stands, GroundAt, GroundEnds}
 use Rattle.minuska.proofs.Tests.{same-whole, whole-same}
 use Rattle.minuska.proofs.NodeLaw.{NodeIs, node-is}
-use Rattle.minuska.proofs.WordLaw.{okay, okay-all, head-okay, appended, encode-appended}
+use Rattle.minuska.proofs.WordLaw.{childless, okay, okay-all, head-okay, appended, encode-appended}
 use Rattle.minuska.proofs.Bridge.PlaceLaw.{stands-word, stands-head, stands-first, stands-second, stands-unique}
 use Rattle.minuska.proofs.Bridge.AppendedLaw.{first-words, appended-count, appended-ok, labels, labels-all, appended-labels}
 use Rattle.step.specs.Compare.{Comparison, apart, later, compare}
@@ -37,13 +37,6 @@ pub word-same : {a b x y : ℤ} → SFits w64 a → SFits w64 b → a ≡ x → 
 word-same {a} {b} f g p q e = sym p ∙ (same-bits a b f g e ∙ q)
 
 -- ---- words that are the same, or not
-not-same : (a b : ℤ) → (a ≡ b → ⊥) → sameWhole a b ≡ false
-not-same a b f = pick (sameWhole a b) refl
-  where
-    pick : (t : Bool) → sameWhole a b ≡ t → t ≡ false
-    pick true e = absurd (f (same-whole a b (subst⁻¹ T e tt)))
-    pick false e = refl
-
 is-same : (a b : ℤ) → a ≡ b → sameWhole a b ≡ true
 is-same a b e = pick (sameWhole a b) (subst (λ (x : ℤ). T (sameWhole a x)) e (whole-same a))
   where
@@ -61,10 +54,6 @@ symbolic-plain l k x s f = pick (role l) refl s (node-is l k x)
     pick plain q s n = q
 
 -- no words, no terms
-pub childless : (f : Forest) → termCount f ≡ 0 → f ≡ nil
-childless nil c = refl
-childless (node l cs ss) c = absurd (let f : ⊥ = omega (arith, c) in f)
-
 no-words : (f : Forest) → length (encode f) ≡ 0 → termCount f ≡ 0
 no-words nil e = refl
 no-words (node l cs ss) e = absurd (let f : ⊥ = omega (arith, e) in f)

@@ -22,14 +22,14 @@ use Rattle.minuska.specs.Computed.Match.{sameTerm, assignNew, assignAt, assign}
 use Rattle.minuska.specs.Bridge.Place.{part, Stands, GroundAt, GroundEnds, BoundAt, Binds}
 use Rattle.minuska.proofs.Tests.{provided-true, same-term, term-same}
 use Rattle.minuska.proofs.NodeLaw.{variable-tag, variable-label}
-use Rattle.minuska.proofs.WordLaw.{okay, head-okay}
+use Rattle.minuska.proofs.WordLaw.{okay, head-okay, childless}
 use Rattle.minuska.proofs.Bridge.PlaceLaw.{stands-second, stands-unique}
 use Rattle.minuska.proofs.Bridge.AppendedLaw.{first-words, labels}
 use Rattle.step.specs.Compare.{Comparison, apart, later, after, compareBound, compare}
 use Rattle.step.specs.Matching.{Walk, Walking, TurnFrom, Put, LeftTurned}
 use Rattle.step.specs.declared.matching.LeftTurn.the-variants.{Bind, Again, Misfit}
 use Rattle.step.proofs.CompareLaw.{later-later}
-use Rattle.step.proofs.MatchingLaw.{word, childless, has-part, heads, left-tag, left-datum, words-here, term-at}
+use Rattle.step.proofs.MatchingLaw.{word, has-part, heads, left-tag, left-datum, words-here, term-at}
 
 module _ {table : List ℤ} {end : ℕ} {config : List ℤ} {i j : ℕ} {starts ends : List ℕ} {n : ℕ} {o : Comparison} where
   -- the walk is at a variable, if the tag says so

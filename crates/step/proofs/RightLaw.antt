@@ -22,7 +22,7 @@ use Rattle.minuska.specs.Bridge.Place.{Stands, part}
 use Rattle.minuska.proofs.Tests.{and-left, and-right, and-both}
 use Rattle.minuska.proofs.FunctionLaw.{every-value}
 use Rattle.minuska.proofs.NodeLaw.{variable-tag, call-tag, plain-tag}
-use Rattle.minuska.proofs.WordLaw.{okay, head-okay, okay-all, appended, encode-appended}
+use Rattle.minuska.proofs.WordLaw.{childless, okay, head-okay, okay-all, appended, encode-appended}
 use Rattle.minuska.proofs.Bridge.AppendedLaw.{first-words, appended-ok}
 use Rattle.minuska.proofs.Bridge.ItemLaw.{variable-item, call-item, plain-item, term-appended}
 use Rattle.minuska.proofs.Bridge.PlaceLaw.{stands-first, stands-second, stands-head, stands-word}
@@ -33,7 +33,7 @@ use Rattle.value.specs.Value.{valueWords, Within, sizeOf, Ordered}
 use Rattle.value.specs.Evaluate.{HasValue, ExpressionIn, EvaluateContract}
 use Rattle.value.proofs.WordsLaw.{size-is, within-ordered}
 use Rattle.step.specs.Right.{Rest, SomeRest, LeadsOn, ItemOf, ItemIs, SizedOf, SizedIs, SomePiece, PieceIs, OneNodeIs}
-use Rattle.step.proofs.MatchingLaw.{word, childless}
+use Rattle.step.proofs.MatchingLaw.{word}
 
 -- a node stands before the end, and its tag is read there
 first : {ws cs : List ℤ} {starts ends : List ℕ} {at end : ℕ} {ρ : Valuation} {X : Type 0} (f : Forest) {us : List ℤ} → at < end → Rest ws cs starts ends at end ρ f us → ((l : Label) (ls ss : Forest) → Rest ws cs starts ends at end ρ (node l ls ss) us → word ws at ≡ tagWord l (termCount ls) → X) → X

@@ -21,6 +21,7 @@ use Rattle.table.specs.declared.node.Level.the-variants.{Left, Right}
 use Rattle.table.specs.Number.{naturalOf}
 use Rattle.table.specs.Walk.{partEnd, partSeen}
 use Rattle.table.specs.Rule.{conditionsEnd, RuleAt}
+use Rattle.minuska.specs.Bridge.Place.{leftFrom}
 use Rattle.table.proofs.BasicLaw.{none-after, refused}
 use Rattle.table.proofs.NumberLaw.{below-not, below-yes}
 use Rattle.table.proofs.TurnLaw.{two-words}
@@ -88,7 +89,7 @@ short-rule [] h = refl
 short-rule (a ∷ []) h = refl
 short-rule (a ∷ k ∷ xs) h = absurd (let f : ⊥ = omega arith in f)
 
-pub rule-short : (ws : List ℤ) (at : ℕ) → length ws < at + 2 → readRule (drop at ws) ≡ none
+pub rule-short : (ws : List ℤ) (at : ℕ) → length ws < leftFrom at → readRule (drop at ws) ≡ none
 rule-short ws at h = short-rule (drop at ws) (simp length-drop (omega arith))
 
 -- the two numbers of a rule at a place
@@ -96,22 +97,22 @@ pub record Head (ws : List ℤ) (at k : ℕ) : Type 0 where
   pub action : ℕ
   pub low : action < 65536
   pub few : k ≤ 8
-  pub reads : readRule (drop at ws) ≡ (readTerm (drop (at + 2) ws) >>= leftThen action k)
+  pub reads : readRule (drop at ws) ≡ (readTerm (drop (leftFrom at) ws) >>= leftThen action k)
 
-module _ (ws : List ℤ) (at : ℕ) (room : at + 2 ≤ length ws) (a k : ℤ) (ea : a ≡ getD ws at (pos 0)) (ek : k ≡ getD ws (at + 1) (pos 0)) where
-  words : drop at ws ≡ a ∷ k ∷ drop (at + 2) ws
-  words = two-words ws at room ∙ (ap (λ (x : ℤ). x ∷ getD ws (at + 1) (pos 0) ∷ drop (at + 2) ws) (sym ea) ∙ ap (λ (x : ℤ). a ∷ x ∷ drop (at + 2) ws) (sym ek))
+module _ (ws : List ℤ) (at : ℕ) (room : leftFrom at ≤ length ws) (a k : ℤ) (ea : a ≡ getD ws at (pos 0)) (ek : k ≡ getD ws (at + 1) (pos 0)) where
+  words : drop at ws ≡ a ∷ k ∷ drop (leftFrom at) ws
+  words = two-words ws at room ∙ (ap (λ (x : ℤ). x ∷ getD ws (at + 1) (pos 0) ∷ drop (leftFrom at) ws) (sym ea) ∙ ap (λ (x : ℤ). a ∷ x ∷ drop (leftFrom at) ws) (sym ek))
 
   pub rule-action : 65535 < naturalOf a → readRule (drop at ws) ≡ none
   rule-action h =
-      ap readRule words ∙ ap (λ (o : Option ℕ). o >>= λ n. numberBelow 9 k >>= λ m. readTerm (drop (at + 2) ws) >>= leftThen n m) (below-not 65536 a h)
+      ap readRule words ∙ ap (λ (o : Option ℕ). o >>= λ n. numberBelow 9 k >>= λ m. readTerm (drop (leftFrom at) ws) >>= leftThen n m) (below-not 65536 a h)
 
   module _ (ha : naturalOf a ≤ 65535) where
-    numbers : readRule (drop at ws) ≡ (numberBelow 9 k >>= λ m. readTerm (drop (at + 2) ws) >>= leftThen (naturalOf a) m)
-    numbers = ap readRule words ∙ ap (λ (o : Option ℕ). o >>= λ n. numberBelow 9 k >>= λ m. readTerm (drop (at + 2) ws) >>= leftThen n m) (below-yes 65536 a (omega arith) (omega arith))
+    numbers : readRule (drop at ws) ≡ (numberBelow 9 k >>= λ m. readTerm (drop (leftFrom at) ws) >>= leftThen (naturalOf a) m)
+    numbers = ap readRule words ∙ ap (λ (o : Option ℕ). o >>= λ n. numberBelow 9 k >>= λ m. readTerm (drop (leftFrom at) ws) >>= leftThen n m) (below-yes 65536 a (omega arith) (omega arith))
 
     pub rule-count : 8 < naturalOf k → readRule (drop at ws) ≡ none
-    rule-count h = numbers ∙ ap (λ (o : Option ℕ). o >>= λ m. readTerm (drop (at + 2) ws) >>= leftThen (naturalOf a) m) (below-not 9 k h)
+    rule-count h = numbers ∙ ap (λ (o : Option ℕ). o >>= λ m. readTerm (drop (leftFrom at) ws) >>= leftThen (naturalOf a) m) (below-not 9 k h)
 
     pub rule-head : naturalOf k ≤ 8 → Head ws at (naturalOf k)
     rule-head h =
@@ -119,7 +120,7 @@ module _ (ws : List ℤ) (at : ℕ) (room : at + 2 ≤ length ws) (a k : ℤ) (e
           action = naturalOf a;
           low = omega arith;
           few = h;
-          reads = numbers ∙ ap (λ (o : Option ℕ). o >>= λ m. readTerm (drop (at + 2) ws) >>= leftThen (naturalOf a) m) (below-yes 9 k (omega arith) (omega arith));
+          reads = numbers ∙ ap (λ (o : Option ℕ). o >>= λ m. readTerm (drop (leftFrom at) ws) >>= leftThen (naturalOf a) m) (below-yes 9 k (omega arith) (omega arith));
         }
 
 -- ---- its left, its right, its conditions
@@ -127,54 +128,54 @@ module _ (ws : List ℤ) (at k : ℕ) (head : Head ws at k) where
   n : ℕ
   n = head .action
 
-  pub rule-left : partEnd ws (at + 2) Left unseen ≡ none → readRule (drop at ws) ≡ none
+  pub rule-left : partEnd ws (leftFrom at) Left unseen ≡ none → readRule (drop at ws) ≡ none
   unfolding n
   rule-left h =
-      head .reads ∙ none-after (readTerm (drop (at + 2) ws)) (leftThen n k) (λ l e.
+      head .reads ∙ none-after (readTerm (drop (leftFrom at) ws)) (leftThen n k) (λ l e.
       none-after (readTerm (l .1)) (rightThen n k (l .0)) (λ r f. none-after (readConditions k (r .1)) (conditionsThen n (l .0) (r .0)) (λ cs g.
       refused (okRule (ruleOf n (l .0) (r .0) (cs .0))) (ruleOf n (l .0) (r .0) (cs .0), cs .1) (λ x.
       let y = good (ruleOf n (l .0) (r .0) (cs .0)) x in
       let t = single (l .0) in
-      part-missed ws (at + 2) Left unseen h l e (y .left .small) (marks t unseen) (scan-left t unseen ∙ provided-true (isSymbolic t) (marks t unseen) (y .symbolic))))))
+      part-missed ws (leftFrom at) Left unseen h l e (y .left .small) (marks t unseen) (scan-left t unseen ∙ provided-true (isSymbolic t) (marks t unseen) (y .symbolic))))))
 
-  module _ (right : ℕ) (hl : partEnd ws (at + 2) Left unseen ≡ some right) where
-    the-left : LeftFound ws (at + 2) right
-    the-left = left-found ws (at + 2) right hl
+  module _ (right : ℕ) (hl : partEnd ws (leftFrom at) Left unseen ≡ some right) where
+    the-left : LeftFound ws (leftFrom at) right
+    the-left = left-found ws (leftFrom at) right hl
 
     rights : readRule (drop at ws) ≡ (readTerm (drop right ws) >>= rightThen n k (the-left .term))
     unfolding n
     rights = head .reads ∙ ap (λ (o : Option (Term × List ℤ)). o >>= leftThen n k) (the-left .read)
 
-    pub rule-right : partEnd ws right Right (partSeen ws (at + 2) Left unseen) ≡ none → readRule (drop at ws) ≡ none
+    pub rule-right : partEnd ws right Right (partSeen ws (leftFrom at) Left unseen) ≡ none → readRule (drop at ws) ≡ none
     rule-right h =
         let l = the-left in
         rights ∙ none-after (readTerm (drop right ws)) (rightThen n k (l .term)) (λ r f.
         none-after (readConditions k (r .1)) (conditionsThen n (l .term) (r .0)) (λ cs g.
         refused (okRule (ruleOf n (l .term) (r .0) (cs .0))) (ruleOf n (l .term) (r .0) (cs .0), cs .1) (λ x.
         let y = good (ruleOf n (l .term) (r .0) (cs .0)) x in
-        not-passed ws (partSeen ws (at + 2) Left unseen) (l .term) (l .knows) right Right tt h r f (y .right) (y .expression-term) (y .covered))))
+        not-passed ws (partSeen ws (leftFrom at) Left unseen) (l .term) (l .knows) right Right tt h r f (y .right) (y .expression-term) (y .covered))))
 
-    module _ (conditions : ℕ) (hr : partEnd ws right Right (partSeen ws (at + 2) Left unseen) ≡ some conditions) where
+    module _ (conditions : ℕ) (hr : partEnd ws right Right (partSeen ws (leftFrom at) Left unseen) ≡ some conditions) where
       the-right : Passed ws right Right (the-left .term) conditions
-      the-right = passed ws (partSeen ws (at + 2) Left unseen) (the-left .term) (the-left .knows) right Right tt conditions hr
+      the-right = passed ws (partSeen ws (leftFrom at) Left unseen) (the-left .term) (the-left .knows) right Right tt conditions hr
 
       rest : readRule (drop at ws) ≡ (readConditions k (drop conditions ws) >>= conditionsThen n (the-left .term) (the-right .term))
       rest = rights ∙ ap (λ (o : Option (Term × List ℤ)). o >>= rightThen n k (the-left .term)) (the-right .read)
 
-      pub rule-conditions : conditionsEnd k ws (partSeen ws (at + 2) Left unseen) conditions ≡ none → readRule (drop at ws) ≡ none
+      pub rule-conditions : conditionsEnd k ws (partSeen ws (leftFrom at) Left unseen) conditions ≡ none → readRule (drop at ws) ≡ none
       rule-conditions h =
           let l = the-left in
           let r = the-right in
           rest ∙ none-after (readConditions k (drop conditions ws)) (conditionsThen n (l .term) (r .term)) (λ cs g.
           refused (okRule (ruleOf n (l .term) (r .term) (cs .0))) (ruleOf n (l .term) (r .term) (cs .0), cs .1) (λ x.
-          conditions-missed ws (partSeen ws (at + 2) Left unseen) (l .term) (l .knows) k conditions h cs g (good (ruleOf n (l .term) (r .term) (cs .0)) x .conditions)))
+          conditions-missed ws (partSeen ws (leftFrom at) Left unseen) (l .term) (l .knows) k conditions h cs g (good (ruleOf n (l .term) (r .term) (cs .0)) x .conditions)))
 
-      pub rule-good : (end : ℕ) → conditionsEnd k ws (partSeen ws (at + 2) Left unseen) conditions ≡ some end → RuleAt ws at right conditions end
+      pub rule-good : (end : ℕ) → conditionsEnd k ws (partSeen ws (leftFrom at) Left unseen) conditions ≡ some end → RuleAt ws at right conditions end
       unfolding n
       rule-good end h =
           let l = the-left in
           let r = the-right in
-          let c = conditions-found ws (partSeen ws (at + 2) Left unseen) (l .term) (l .knows) k conditions end h in
+          let c = conditions-found ws (partSeen ws (leftFrom at) Left unseen) (l .term) (l .knows) k conditions end h in
           let rule = ruleOf n (l .term) (r .term) (c .conditions) in
           let few : length (c .conditions) ≤ 8 = let e = c .count in let g = head .few in omega arith in
           let x = okay-rule n (l .term) (r .term) (c .conditions) (head .low) few (l .okay) (r .okay) (l .symbolic) (r .shaped) (r .covered) (c .okay) in

@@ -12,6 +12,7 @@ use Rattle.table.specs.declared.node.Level.the-variants.{Left, Right}
 use Rattle.table.specs.Number.{naturalOf}
 use Rattle.table.specs.Walk.{placed, partEnd, partSeen, PartContract}
 use Rattle.table.specs.Rule.{conditionsEnd}
+use Rattle.minuska.specs.Bridge.Place.{leftFrom}
 use Rattle.table.proofs.NumberLaw.{via}
 use Rattle.table.proofs.PartLaw.{placed-at, placed-nowhere}
 use borrow.Author.Needs.{needs}
@@ -21,7 +22,7 @@ use Rattle.table.proofs.rule.rule_parts.Statement.{statement}
 use Rattle.table.proofs.rule.rule_parts.Tie as tie
 
 -- the words and their numbers
-room : (c : tie.Else2) → c .before .before .args .at + 2 ≤ length (c .before .before .args .table .now)
+room : (c : tie.Else2) → leftFrom (c .before .before .args .at) ≤ length (c .before .before .args .table .now)
 room c = omega arith
 
 first-number : (c : tie.After-natural) → c .natural .result ≡ naturalOf (c .before .word .result)
@@ -38,24 +39,24 @@ head c =
     (rule-head (c .before .before .before .before .before .before .before .before .args .table .now) (c .before .before .before .before .before .before .before .before .args .at) (room (c .before .before .before .before .before .before)) (c .before .before .before .before .before .word .result) (c .before .before .word2 .result) (c .before .before .before .before .before .word .ensures) (c .before .before .word2 .ensures) (omega arith) (omega arith))
 
 -- the left, and the flags after it
-left-contract : (c : tie.After-part-end) → PartContract (c .before .before .before .before .before .before .before .before .before .before .args .table .now) (c .before .before .before .before .before .before .before .before .before .before .args .at + 2) Left unseen (c .part-end .last .1 .1 .1 .0) (c .part-end .result)
+left-contract : (c : tie.After-part-end) → PartContract (c .before .before .before .before .before .before .before .before .before .before .args .table .now) (leftFrom (c .before .before .before .before .before .before .before .before .before .before .args .at)) Left unseen (c .part-end .last .1 .1 .1 .0) (c .part-end .result)
 left-contract c = c .part-end .ensures
 
-left-at : (c : tie.After-known-told) → partEnd (c .before .before .before .before .before .before .before .before .before .before .before .before .before .args .table .now) (c .before .before .before .before .before .before .before .before .before .before .before .before .before .args .at + 2) Left unseen ≡ some (c .before .right .given .0 .0)
-left-at c = placed-at (c .before .right .given .0 .0) (partEnd (c .before .before .before .before .before .before .before .before .before .before .before .before .before .args .table .now) (c .before .before .before .before .before .before .before .before .before .before .before .before .before .args .at + 2) Left unseen) (sym (c .before .right .given .1) ∙ left-contract (c .before .before .before) .answer)
+left-at : (c : tie.After-known-told) → partEnd (c .before .before .before .before .before .before .before .before .before .before .before .before .before .args .table .now) (leftFrom (c .before .before .before .before .before .before .before .before .before .before .before .before .before .args .at)) Left unseen ≡ some (c .before .right .given .0 .0)
+left-at c = placed-at (c .before .right .given .0 .0) (partEnd (c .before .before .before .before .before .before .before .before .before .before .before .before .before .args .table .now) (leftFrom (c .before .before .before .before .before .before .before .before .before .before .before .before .before .args .at)) Left unseen) (sym (c .before .right .given .1) ∙ left-contract (c .before .before .before) .answer)
 
 -- the right, by these flags, which it keeps
-right-is : (c : tie.After-part-end2) → c .part-end2 .result ≡ placed (partEnd (c .before .before .before .before .before .before .before .before .before .before .before .before .before .before .before .args .table .now) (c .before .before .before .right .given .0 .0) Right (partSeen (c .before .before .before .before .before .before .before .before .before .before .before .before .before .before .before .args .table .now) (c .before .before .before .before .before .before .before .before .before .before .before .before .before .before .before .args .at + 2) Left unseen))
+right-is : (c : tie.After-part-end2) → c .part-end2 .result ≡ placed (partEnd (c .before .before .before .before .before .before .before .before .before .before .before .before .before .before .before .args .table .now) (c .before .before .before .right .given .0 .0) Right (partSeen (c .before .before .before .before .before .before .before .before .before .before .before .before .before .before .before .args .table .now) (leftFrom (c .before .before .before .before .before .before .before .before .before .before .before .before .before .before .before .args .at)) Left unseen))
 right-is c = c .part-end2 .ensures .answer ∙ ap (λ (s : List Bool). placed (partEnd (c .before .before .before .before .before .before .before .before .before .before .before .before .before .before .before .args .table .now) (c .before .before .before .right .given .0 .0) Right s)) (left-contract (c .before .before .before .before .before) .leaves)
 
-right-at : (c : tie.After-known-told2) → partEnd (c .before .before .before .before .before .before .before .before .before .before .before .before .before .before .before .before .before .before .args .table .now) (c .before .before .before .before .before .before .right .given .0 .0) Right (partSeen (c .before .before .before .before .before .before .before .before .before .before .before .before .before .before .before .before .before .before .args .table .now) (c .before .before .before .before .before .before .before .before .before .before .before .before .before .before .before .before .before .before .args .at + 2) Left unseen) ≡ some (c .before .conditions .given .0 .0)
-right-at c = placed-at (c .before .conditions .given .0 .0) (partEnd (c .before .before .before .before .before .before .before .before .before .before .before .before .before .before .before .before .before .before .args .table .now) (c .before .before .before .before .before .before .right .given .0 .0) Right (partSeen (c .before .before .before .before .before .before .before .before .before .before .before .before .before .before .before .before .before .before .args .table .now) (c .before .before .before .before .before .before .before .before .before .before .before .before .before .before .before .before .before .before .args .at + 2) Left unseen)) (sym (c .before .conditions .given .1) ∙ right-is (c .before .before .before))
+right-at : (c : tie.After-known-told2) → partEnd (c .before .before .before .before .before .before .before .before .before .before .before .before .before .before .before .before .before .before .args .table .now) (c .before .before .before .before .before .before .right .given .0 .0) Right (partSeen (c .before .before .before .before .before .before .before .before .before .before .before .before .before .before .before .before .before .before .args .table .now) (leftFrom (c .before .before .before .before .before .before .before .before .before .before .before .before .before .before .before .before .before .before .args .at)) Left unseen) ≡ some (c .before .conditions .given .0 .0)
+right-at c = placed-at (c .before .conditions .given .0 .0) (partEnd (c .before .before .before .before .before .before .before .before .before .before .before .before .before .before .before .before .before .before .args .table .now) (c .before .before .before .before .before .before .right .given .0 .0) Right (partSeen (c .before .before .before .before .before .before .before .before .before .before .before .before .before .before .before .before .before .before .args .table .now) (leftFrom (c .before .before .before .before .before .before .before .before .before .before .before .before .before .before .before .before .before .before .args .at)) Left unseen)) (sym (c .before .conditions .given .1) ∙ right-is (c .before .before .before))
 
-kept : (c : tie.After-part-end2) → c .part-end2 .last .1 .1 .1 .0 ≡ partSeen (c .before .before .before .before .before .before .before .before .before .before .before .before .before .before .before .args .table .now) (c .before .before .before .before .before .before .before .before .before .before .before .before .before .before .before .args .at + 2) Left unseen
+kept : (c : tie.After-part-end2) → c .part-end2 .last .1 .1 .1 .0 ≡ partSeen (c .before .before .before .before .before .before .before .before .before .before .before .before .before .before .before .args .table .now) (leftFrom (c .before .before .before .before .before .before .before .before .before .before .before .before .before .before .before .args .at)) Left unseen
 kept c = c .part-end2 .ensures .leaves ∙ (part-keeps (c .before .before .before .before .before .before .before .before .before .before .before .before .before .before .before .args .table .now) (c .before .before .before .right .given .0 .0) Right (c .before .before .before .before .before .part-end .last .1 .1 .1 .0) tt ∙ left-contract (c .before .before .before .before .before) .leaves)
 
 -- the conditions
-conditions-are : (c : tie.After-conditions-end) → c .conditions-end .result ≡ placed (conditionsEnd (c .before .before .before .before .before .before .before .before .before .before .before .before .before .natural2 .result) (c .before .before .before .before .before .before .before .before .before .before .before .before .before .before .before .before .before .before .before .before .args .table .now) (partSeen (c .before .before .before .before .before .before .before .before .before .before .before .before .before .before .before .before .before .before .before .before .args .table .now) (c .before .before .before .before .before .before .before .before .before .before .before .before .before .before .before .before .before .before .before .before .args .at + 2) Left unseen) (c .before .before .before .conditions .given .0 .0))
+conditions-are : (c : tie.After-conditions-end) → c .conditions-end .result ≡ placed (conditionsEnd (c .before .before .before .before .before .before .before .before .before .before .before .before .before .natural2 .result) (c .before .before .before .before .before .before .before .before .before .before .before .before .before .before .before .before .before .before .before .before .args .table .now) (partSeen (c .before .before .before .before .before .before .before .before .before .before .before .before .before .before .before .before .before .before .before .before .args .table .now) (leftFrom (c .before .before .before .before .before .before .before .before .before .before .before .before .before .before .before .before .before .before .before .before .args .at)) Left unseen) (c .before .before .before .conditions .given .0 .0))
 conditions-are c = c .conditions-end .ensures .answer ∙ ap (λ (s : List Bool). placed (conditionsEnd (c .before .before .before .before .before .before .before .before .before .before .before .before .before .natural2 .result) (c .before .before .before .before .before .before .before .before .before .before .before .before .before .before .before .before .before .before .before .before .args .table .now) s (c .before .before .before .conditions .given .0 .0))) (kept (c .before .before .before .before .before))
 
 returns : tie.Need-returns
@@ -106,7 +107,7 @@ returns-5 : tie.Need-returns-5
 returns-5 c =
     let ws = c .before .before .before .before .before .before .before .before .before .before .before .before .args .table .now in
     let at = c .before .before .before .before .before .before .before .before .before .before .before .before .args .at in
-    rule-left ws at (c .before .before .before .before .before .natural2 .result) (head (c .before .before .before .before)) (placed-nowhere (partEnd ws (at + 2) Left unseen) (sym (c .enum-told .given .1) ∙ left-contract (c .before .before) .answer))
+    rule-left ws at (c .before .before .before .before .before .natural2 .result) (head (c .before .before .before .before)) (placed-nowhere (partEnd ws (leftFrom at) Left unseen) (sym (c .enum-told .given .1) ∙ left-contract (c .before .before) .answer))
 
 part-end-requires-2 : tie.Need-part-end-requires-2
 part-end-requires-2 c κs = search needs
@@ -123,7 +124,7 @@ returns-6 c =
     let at = c .before .before .before .before .before .before .before .before .before .before .before .before .before .before .before .before .before .args .at in
     let right = c .before .before .before .before .before .right .given .0 .0 in
     rule-right ws at (c .before .before .before .before .before .before .before .before .before .before .natural2 .result) (head (c .before .before .before .before .before .before .before .before .before)) right (left-at (c .before .before .before .before))
-    (placed-nowhere (partEnd ws right Right (partSeen ws (at + 2) Left unseen)) (sym (c .enum-told2 .given .1) ∙ right-is (c .before .before)))
+    (placed-nowhere (partEnd ws right Right (partSeen ws (leftFrom at) Left unseen)) (sym (c .enum-told2 .given .1) ∙ right-is (c .before .before)))
 
 conditions-end-requires : tie.Need-conditions-end-requires
 conditions-end-requires c κs = search needs
@@ -141,7 +142,7 @@ returns-7 c =
     let count = c .before .before .before .before .before .before .before .before .before .before .before .before .before .before .before .natural2 .result in
     let conditions = c .before .before .before .before .before .conditions .given .0 .0 in
     rule-conditions ws at count (head (c .before .before .before .before .before .before .before .before .before .before .before .before .before .before)) (c .before .before .before .before .before .before .before .before .before .before .right .given .0 .0) (left-at (c .before .before .before .before .before .before .before .before .before)) conditions (right-at (c .before .before .before .before))
-    (placed-nowhere (conditionsEnd count ws (partSeen ws (at + 2) Left unseen) conditions) (sym (c .enum-told3 .given .1) ∙ conditions-are (c .before .before)))
+    (placed-nowhere (conditionsEnd count ws (partSeen ws (leftFrom at) Left unseen) conditions) (sym (c .enum-told3 .given .1) ∙ conditions-are (c .before .before)))
 
 returns-8 : tie.Need-returns-8
 returns-8 c =
@@ -151,7 +152,7 @@ returns-8 c =
     let conditions = c .before .before .before .before .before .before .conditions .given .0 .0 in
     let end = c .before .end .given .0 .0 in
     rule-good ws at count (head (c .before .before .before .before .before .before .before .before .before .before .before .before .before .before .before)) (c .before .before .before .before .before .before .before .before .before .before .before .right .given .0 .0) (left-at (c .before .before .before .before .before .before .before .before .before .before)) conditions (right-at (c .before .before .before .before .before)) end
-    (placed-at end (conditionsEnd count ws (partSeen ws (at + 2) Left unseen) conditions) (sym (c .before .end .given .1) ∙ conditions-are (c .before .before .before)))
+    (placed-at end (conditionsEnd count ws (partSeen ws (leftFrom at) Left unseen) conditions) (sym (c .before .end .given .1) ∙ conditions-are (c .before .before .before)))
 
 pub rule-parts-spec : {M : Type 1} → statement M
 rule-parts-spec =
