@@ -51,7 +51,7 @@ node-is (call c) k x =
     record { tag = refl; datum = refl; small = ltb→lt c (length functions) (and-left a b x); arity = eqb→eq k (functionAt c .arity) (and-right a b x) }
 node-is (symbol s) k x = record { number = 8 + k; tag = refl; no-variable = λ e. omega arith; no-call = λ e. omega arith; count = omega arith }
 
--- the label of a variable, and of a call
+-- the label of a variable
 pub variable-label : (l : Label) (v : ℕ) → role l ≡ aVariable v → l ≡ variable v
 variable-label error v e = cc
 variable-label (truth b) v e = cc
@@ -59,14 +59,6 @@ variable-label (whole z) v e = cc
 variable-label (variable w) v e = ap variable (cc)
 variable-label (call c) v e = cc
 variable-label (symbol s) v e = cc
-
-pub call-label : (l : Label) (c : ℕ) → role l ≡ aCall c → l ≡ call c
-call-label error c e = cc
-call-label (truth b) c e = cc
-call-label (whole z) c e = cc
-call-label (variable v) c e = cc
-call-label (call d) c e = ap call (cc)
-call-label (symbol s) c e = cc
 
 -- ---- the same by the tag
 module _ (l : Label) (k : ℕ) (x : T (okHead l k)) where

@@ -1,4 +1,3 @@
-pub mod TagLaw
 pub mod CompareLaw
 pub mod MatchingLaw
 pub mod MatchingVariable

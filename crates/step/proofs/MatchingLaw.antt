@@ -13,19 +13,28 @@ use mir.Syntax.{w64}
 use mir.Val.{SFits, ofZ}
 use Rattle.term.proofs.SignedLaw.{same-bits}
 use Rattle.minuska.specs.Basics.{sameWhole}
+<<<<<<< HEAD
 use Rattle.minuska.specs.Term.{Label, Forest, nil, node, Term, single, termCount, plain, role, groundAt}
 use Rattle.minuska.specs.Word.{tagWord, datumWord, encode}
+=======
+use Rattle.minuska.specs.Term.{Label, Forest, nil, node, Term, single, termCount, Role, aVariable, aCall, plain, role, groundAt}
+use Rattle.minuska.specs.Computed.Read.{variableTag}
+use Rattle.minuska.specs.Word.{tagWord, datumWord, okHead, encode}
+>>>>>>> 7b7156eb89a9617c7a8c77db9a60e577169829f9
 use Rattle.minuska.specs.Satisfaction.{Valuation}
 use Rattle.minuska.specs.Rule.{symbolicAt}
 use Rattle.minuska.specs.Bridge.Place.{Stands, GroundAt, GroundEnds}
 use Rattle.minuska.proofs.Tests.{same-whole, whole-same}
+<<<<<<< HEAD
+=======
+use Rattle.minuska.proofs.NodeLaw.{NodeIs, node-is}
+>>>>>>> 7b7156eb89a9617c7a8c77db9a60e577169829f9
 use Rattle.minuska.proofs.WordLaw.{childless, okay, okay-all, head-okay, appended, encode-appended}
 use Rattle.minuska.proofs.Bridge.PlaceLaw.{stands-word, stands-head, stands-first, stands-second, stands-unique}
 use Rattle.minuska.proofs.Bridge.AppendedLaw.{first-words, appended-count, appended-ok, labels, labels-all, appended-labels}
 use Rattle.step.specs.Compare.{Comparison, apart, later, compare}
 use Rattle.step.specs.Matching.{Walk, Walking, TurnFrom, LeftTurned}
 use Rattle.step.specs.declared.matching.LeftTurn.the-variants.{Same, Misfit}
-use Rattle.step.proofs.TagLaw.{symbolic-plain}
 use Rattle.step.proofs.CompareLaw.{later-later, same-node, compare-plain, compare-on}
 
 abbrev pub word : List ℤ → ℕ → ℤ
@@ -42,6 +51,15 @@ is-same a b e = pick (sameWhole a b) (subst (λ (x : ℤ). T (sameWhole a x)) e 
     pick : (t : Bool) → T t → t ≡ true
     pick true h = refl
     pick false h = absurd h
+
+-- a left's label is a variable's, with its tag, or plain
+symbolic-plain : (l : Label) (k : ℕ) → T (okHead l k) → T (symbolicAt (role l)) → (tagWord l k ≡ pos variableTag → ⊥) → role l ≡ plain
+symbolic-plain l k x s f = pick (role l) refl s (node-is l k x)
+  where
+    pick : (r : Role) → role l ≡ r → T (symbolicAt r) → NodeIs r (tagWord l k) (datumWord l) k → role l ≡ plain
+    pick (aVariable v) q s n = absurd (f (n .tag))
+    pick (aCall c) q s n = absurd s
+    pick plain q s n = q
 
 -- no words, no terms
 no-words : (f : Forest) → length (encode f) ≡ 0 → termCount f ≡ 0
@@ -95,10 +113,10 @@ module _ {table : List ℤ} {end : ℕ} {config : List ℤ} {i j : ℕ} {starts 
 
     -- ---- a plain node
     -- the label is plain, as the tag says
-    plain-role : (word table i ≡ pos 3 → ⊥) → role l ≡ plain
-    plain-role f = symbolic-plain l (termCount ls) (labels (λ z. symbolicAt (role z)) l ls lss (w .leftSymbolic) .here) (λ p. f (left-tag ∙ p))
+    plain-role : (word table i ≡ pos variableTag → ⊥) → role l ≡ plain
+    plain-role f = symbolic-plain l (termCount ls) (head-okay l ls (okay l ls lss (w .leftGood) .allowed)) (labels (λ z. symbolicAt (role z)) l ls lss (w .leftSymbolic) .here) (λ p. f (left-tag ∙ p))
 
-    after-same : (word table i ≡ pos 3 → ⊥) → word table i ≡ word config j → word table (i + 1) ≡ word config (j + 1) → Walking table end config (n + 1) (i + 2) (j + 2) starts ends o
+    after-same : (word table i ≡ pos variableTag → ⊥) → word table i ≡ word config j → word table (i + 1) ≡ word config (j + 1) → Walking table end config (n + 1) (i + 2) (j + 2) starts ends o
     after-same f p q =
         let p′ : tagWord l (termCount ls) ≡ tagWord g (termCount gs) = sym left-tag ∙ (p ∙ ground-tag) in
         let q′ : datumWord l ≡ datumWord g = sym left-datum ∙ (q ∙ ground-datum) in
@@ -133,7 +151,7 @@ module _ {table : List ℤ} {end : ℕ} {config : List ℤ} {i j : ℕ} {starts 
           };
         }
 
-    after-other : (word table i ≡ pos 3 → ⊥) → (word table i ≡ word config j → word table (i + 1) ≡ word config (j + 1) → ⊥) → o ≡ apart n
+    after-other : (word table i ≡ pos variableTag → ⊥) → (word table i ≡ word config j → word table (i + 1) ≡ word config (j + 1) → ⊥) → o ≡ apart n
     after-other f h = pick (sameWhole (tagWord l (termCount ls)) (tagWord g (termCount gs))) (sameWhole (datumWord l) (datumWord g)) refl refl
       where
         stopped : sameWhole (tagWord l (termCount ls)) (tagWord g (termCount gs)) && sameWhole (datumWord l) (datumWord g) ≡ false → o ≡ apart n
@@ -148,7 +166,7 @@ module _ {table : List ℤ} {end : ℕ} {config : List ℤ} {i j : ℕ} {starts 
         pick false b p q = stopped (ap (λ (z : Bool). z && sameWhole (datumWord l) (datumWord g)) p)
 
 -- ---- what one turn answers at a plain node
-module _ {table : List ℤ} {i end : ℕ} {config : List ℤ} {j : ℕ} {starts ends : List ℕ} (plain : word table i ≡ pos 3 → ⊥) where
+module _ {table : List ℤ} {i end : ℕ} {config : List ℤ} {j : ℕ} {starts ends : List ℕ} (plain : word table i ≡ pos variableTag → ⊥) where
   pub turned-same : word table i ≡ word config j → word table (i + 1) ≡ word config (j + 1) → LeftTurned table i end config j starts ends Same
   turned-same p q = record { after = λ n o h w. heads w h (λ l ls lss g gs gss σ k. after-same l ls lss g gs gss σ k plain p q) }
 

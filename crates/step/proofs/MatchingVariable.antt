@@ -7,43 +7,47 @@ use Prim.Native.Nat.{ℕ, _+_, _-_, _<_, _≤_}
 use native.Mathlib.Nat.{add-zero}
 use native.Mathlib.Omega.{arith}
 use native.Mathlib.Decide.{ℕ-discrete}
-use lib.Dec.{T, eqb, ltb, eqb→eq, ltb→lt}
+use lib.Dec.{T}
 use lib.IntN.{ℤ, pos, natAbs}
 use lib.Signed.{nonNeg}
 use lib.ListN.{length, take, drop, getD, length-append}
 use borrow.Author.Tests.{eq-eqb, ne-eqb}
 use Rattle.minuska.specs.Basics.{provided}
 use Rattle.minuska.specs.Term.{Label, variable, Forest, nil, node, Term, single, termCount, role, groundAt}
+<<<<<<< HEAD
 use Rattle.minuska.specs.Word.{tagWord, datumWord, okNode, encode}
+=======
+use Rattle.minuska.specs.Word.{variables, tagWord, datumWord, encode}
+>>>>>>> 7b7156eb89a9617c7a8c77db9a60e577169829f9
 use Rattle.minuska.specs.Satisfaction.{Valuation}
 use Rattle.minuska.specs.Rule.{symbolicAt}
+use Rattle.minuska.specs.Computed.Read.{variableTag}
 use Rattle.minuska.specs.Computed.Match.{sameTerm, assignNew, assignAt, assign}
 use Rattle.minuska.specs.Bridge.Place.{part, Stands, GroundAt, GroundEnds, BoundAt, Binds}
-use Rattle.minuska.proofs.Tests.{and-left, and-right, provided-true, same-term, term-same}
-use Rattle.minuska.proofs.WordLaw.{okay, childless}
+use Rattle.minuska.proofs.Tests.{provided-true, same-term, term-same}
+use Rattle.minuska.proofs.NodeLaw.{variable-tag, variable-label}
+use Rattle.minuska.proofs.WordLaw.{okay, head-okay, childless}
 use Rattle.minuska.proofs.Bridge.PlaceLaw.{stands-second, stands-unique}
 use Rattle.minuska.proofs.Bridge.AppendedLaw.{first-words, labels}
 use Rattle.step.specs.Compare.{Comparison, apart, later, after, compareBound, compare}
 use Rattle.step.specs.Matching.{Walk, Walking, TurnFrom, Put, LeftTurned}
 use Rattle.step.specs.declared.matching.LeftTurn.the-variants.{Bind, Again, Misfit}
 use Rattle.step.proofs.CompareLaw.{later-later}
-use Rattle.step.proofs.TagLaw.{tag-three}
 use Rattle.step.proofs.MatchingLaw.{word, has-part, heads, left-tag, left-datum, words-here, term-at}
 
 module _ {table : List ℤ} {end : ℕ} {config : List ℤ} {i j : ℕ} {starts ends : List ℕ} {n : ℕ} {o : Comparison} where
   -- the walk is at a variable, if the tag says so
-  at-variable : {X : Type 0} {v : ℕ} → Walking table end config n i j starts ends o → i < end → word table i ≡ pos 3 → v ≡ natAbs (word table (i + 1)) → ((lss : Forest) (g : Label) (gs gss : Forest) (σ : Valuation) → v < 16 → word table (i + 1) ≡ pos v → Walk table end config n i j starts ends (node (variable v) nil lss) (node g gs gss) σ o → X) → X
+  at-variable : {X : Type 0} {v : ℕ} → Walking table end config n i j starts ends o → i < end → word table i ≡ pos variableTag → v ≡ natAbs (word table (i + 1)) → ((lss : Forest) (g : Label) (gs gss : Forest) (σ : Valuation) → v < variables → word table (i + 1) ≡ pos v → Walk table end config n i j starts ends (node (variable v) nil lss) (node g gs gss) σ o → X) → X
   at-variable {X} {v} w h three e go = heads w h pick
     where
       pick : (l : Label) (ls lss : Forest) (g : Label) (gs gss : Forest) (σ : Valuation) → Walk table end config n i j starts ends (node l ls lss) (node g gs gss) σ o → X
       pick l ls lss g gs gss σ k =
-          let t = tag-three l (termCount ls) (sym (left-tag l ls lss g gs gss σ k) ∙ three) in
-          let d : word table (i + 1) ≡ pos (t .0) = left-datum l ls lss g gs gss σ k ∙ ap datumWord (t .1) in
-          let same : v ≡ t .0 = e ∙ ap natAbs d in
-          let p : l ≡ variable v = t .1 ∙ ap variable (sym same) in
-          let x : T (okNode (variable v) ls) = subst (λ (m : Label). T (okNode m ls)) p (okay l ls lss (k .leftGood) .allowed) in
-          let z = childless ls (eqb→eq (termCount ls) 0 (and-right (ltb v 16) (eqb (termCount ls) 0) x)) in
-          go lss g gs gss σ (ltb→lt v 16 (and-left (ltb v 16) (eqb (termCount ls) 0) x)) (d ∙ ap pos (sym same))
+          let (u, r, x) = variable-tag l (termCount ls) (head-okay l ls (okay l ls lss (k .leftGood) .allowed)) (sym (left-tag l ls lss g gs gss σ k) ∙ three) in
+          let d : word table (i + 1) ≡ pos u = left-datum l ls lss g gs gss σ k ∙ x .datum in
+          let same : v ≡ u = e ∙ ap natAbs d in
+          let p : l ≡ variable v = variable-label l u r ∙ ap variable (sym same) in
+          let z = childless ls (x .childless) in
+          go lss g gs gss σ (subst⁻¹ (λ (m : ℕ). m < variables) same (x .small)) (d ∙ ap pos (sym same))
           (subst₂ (λ (m : Label) (c : Forest). Walk table end config n i j starts ends (node m c lss) (node g gs gss) σ o) p z k)
 
   module _ (v : ℕ) (lss : Forest) (g : Label) (gs gss : Forest) (σ : Valuation) (w : Walk table end config n i j starts ends (node (variable v) nil lss) (node g gs gss) σ o) where
@@ -96,7 +100,7 @@ module _ {table : List ℤ} {end : ℕ} {config : List ℤ} {i j : ℕ} {starts 
         pick none e = refl
         pick (some s) e = absurd (let b = w .binds .places v s e .ends in let f : ⊥ = omega arith in f)
 
-    after-bind : v < 16 → (e : ℕ) → getD ends v 0 ≡ 0 → e ≡ j + length (encode (single here)) → (starts′ ends′ : List ℕ) → Put starts starts′ v j → Put ends ends′ v e → Walking table end config (n + 1) (i + 2) e starts′ ends′ o
+    after-bind : v < variables → (e : ℕ) → getD ends v 0 ≡ 0 → e ≡ j + length (encode (single here)) → (starts′ ends′ : List ℕ) → Put starts starts′ v j → Put ends ends′ v e → Walking table end config (n + 1) (i + 2) e starts′ ends′ o
     after-bind low e z at starts′ ends′ ps pe =
         behind e at starts′ ends′ (assignNew σ v here) (record { places = λ u. place u (ℕ-discrete u v) }) (λ u. open-end u (ℕ-discrete u v))
         (assigned (assignNew σ v here) (ap (λ (x : Option Term). assignAt x σ v here) (no-part z)))
@@ -160,7 +164,7 @@ module _ {table : List ℤ} {end : ℕ} {config : List ℤ} {i j : ℕ} {starts 
           omega (arith, bound .ends, ap (λ (t : Term). length (encode (single t))) q, found .stands .within)
 
 -- ---- what one turn answers at a variable
-module _ {table : List ℤ} {i end : ℕ} {config : List ℤ} {j : ℕ} {starts ends : List ℕ} {v : ℕ} (three : word table i ≡ pos 3) (number : v ≡ natAbs (word table (i + 1))) where
+module _ {table : List ℤ} {i end : ℕ} {config : List ℤ} {j : ℕ} {starts ends : List ℕ} {v : ℕ} (three : word table i ≡ pos variableTag) (number : v ≡ natAbs (word table (i + 1))) where
   pub turned-bind : getD ends v 0 ≡ 0 → {e : ℕ} → GroundEnds config j e → LeftTurned table i end config j starts ends (Bind v e)
   turned-bind z {e} t =
       record { after = λ n o h w. at-variable w h three number λ lss g gs gss σ low d k. let x = found v lss g gs gss σ k in let a = t .ends (x .term) (x .good) (x .ground) (x .stands) in (low, omega (arith, a), after-bind v lss g gs gss σ k low e z a) }
@@ -180,7 +184,7 @@ module _ {table : List ℤ} {i end : ℕ} {config : List ℤ} {j : ℕ} {starts 
 
   -- the variable's number is below 16, and its part, if it has one, lies in the configuration
   module _ (t : TurnFrom table i end config j starts ends) where
-    pub number-fits : T (nonNeg (word table (i + 1))) × (v < 16)
+    pub number-fits : T (nonNeg (word table (i + 1))) × (v < variables)
     number-fits = at-variable (t .walking) (t .before) three number λ lss g gs gss σ low d k. (subst⁻¹ (λ (y : ℤ). T (nonNeg y)) d tt, low)
 
     pub part-within : (getD ends v 0 ≡ 0 → ⊥) → (getD starts v 0 ≤ getD ends v 0) × (getD ends v 0 ≤ length config)

@@ -5,22 +5,29 @@ use mathlib.Core.Option.{Option, some}
 use mathlib.Core.List.{List, [], _∷_, _++_}
 use Prim.Native.Nat.{ℕ, _+_, _-_, _≤_, _<_}
 use native.Mathlib.Omega.{arith}
-use lib.Dec.{T, eqb, ltb, eqb→eq}
+use lib.Dec.{T}
 use lib.IntN.{ℤ, pos, natAbs}
 use lib.ListN.{length, take, drop, getD, length-append}
 use lib.Signed.{nonNeg}
 use Rattle.minuska.specs.Basics.{_>>=_}
+<<<<<<< HEAD
 use Rattle.minuska.specs.Term.{Label, whole, variable, call, Forest, nil, node, Term, single, leaf, termCount, Role, plain, role, isGround}
 use Rattle.minuska.specs.Word.{okNode, tagWord, datumWord, encode}
+=======
+use Rattle.minuska.specs.Term.{Label, whole, variable, call, Forest, nil, node, Term, single, leaf, termCount, Role, aVariable, role, isGround}
+use Rattle.minuska.specs.Word.{variables, okHead, tagWord, datumWord, encode}
+>>>>>>> 7b7156eb89a9617c7a8c77db9a60e577169829f9
 use Rattle.minuska.specs.Function.{inWord, shareRange, outOfRange, interpret}
 use Rattle.minuska.specs.Satisfaction.{Valuation}
 use Rattle.minuska.specs.Rule.{expressionAt, isExpression, isExpressionTerm}
+use Rattle.minuska.specs.Computed.Read.{variableTag, callTag}
 use Rattle.minuska.specs.Computed.Value.{valueAt, value, values}
 use Rattle.minuska.specs.Bridge.Walk.{emit}
 use Rattle.minuska.specs.Bridge.Place.{Stands, part}
 use Rattle.minuska.proofs.Tests.{and-left, and-right, and-both}
 use Rattle.minuska.proofs.FunctionLaw.{every-value}
-use Rattle.minuska.proofs.WordLaw.{childless, okay, okay-all, appended, encode-appended}
+use Rattle.minuska.proofs.NodeLaw.{variable-tag, call-tag, plain-tag}
+use Rattle.minuska.proofs.WordLaw.{childless, okay, head-okay, okay-all, appended, encode-appended}
 use Rattle.minuska.proofs.Bridge.AppendedLaw.{first-words, appended-ok}
 use Rattle.minuska.proofs.Bridge.ItemLaw.{variable-item, call-item, plain-item, term-appended}
 use Rattle.minuska.proofs.Bridge.PlaceLaw.{stands-first, stands-second, stands-head, stands-word}
@@ -32,7 +39,6 @@ use Rattle.value.specs.Evaluate.{HasValue, ExpressionIn, EvaluateContract}
 use Rattle.value.proofs.WordsLaw.{size-is, within-ordered}
 use Rattle.step.specs.Right.{Rest, SomeRest, LeadsOn, ItemOf, ItemIs, SizedOf, SizedIs, SomePiece, PieceIs, OneNodeIs}
 use Rattle.step.proofs.MatchingLaw.{word}
-use Rattle.step.proofs.TagLaw.{tag-three, tag-call, tag-plain}
 
 -- a node stands before the end, and its tag is read there
 first : {ws cs : List ℤ} {starts ends : List ℕ} {at end : ℕ} {ρ : Valuation} {X : Type 0} (f : Forest) {us : List ℤ} → at < end → Rest ws cs starts ends at end ρ f us → ((l : Label) (ls ss : Forest) → Rest ws cs starts ends at end ρ (node l ls ss) us → word ws at ≡ tagWord l (termCount ls) → X) → X
@@ -50,10 +56,10 @@ one-if false z = refl
 one-node : (c : ℕ) (xs : Forest) → OneNode (interpret c xs)
 one-node = every-value OneNode (λ b. refl) refl (λ z. one-if (inWord z) z) (λ a b c. one-if (shareRange a b c) _)
 
--- a variable's number is below 16, and its part is the item
+-- a variable's number is in range, and its part is the item
 record VariableItem (ws cs : List ℤ) (starts ends : List ℕ) (at end : ℕ) (ρ : Valuation) (us : List ℤ) (v : ℕ) : Type 0 where
   datum : T (nonNeg (word ws (at + 1)))
-  low : v < 16
+  low : v < variables
   item : ItemOf ws cs starts ends at end ρ us (record { value = W.Configuration (getD starts v 0) (getD ends v 0); next = at + 2 })
 
 module _ {ws cs : List ℤ} {starts ends : List ℕ} {at end : ℕ} {ρ : Valuation} {l : Label} {ls ss : Forest} {us : List ℤ} (r : Rest ws cs starts ends at end ρ (node l ls ss) us) where
@@ -81,6 +87,9 @@ module _ {ws cs : List ℤ} {starts ends : List ℕ} {at end : ℕ} {ρ : Valuat
         binds = r .binds;
       }
 
+  in-range : T (okHead l (termCount ls))
+  in-range = head-okay l ls (okay l ls ss (r .good) .allowed)
+
   -- a term's words are emitted for the first term
   leads-on : (t : Term) (words : List ℤ) → encode (single t) ++ words ≡ us → emit ρ ss ≡ some words → LeadsOn ws cs starts ends at end ρ us (encode (single t)) (at + length (encode (single this)))
   leads-on t words p e = record { later = ss; words = words; parted = p; forward = omega arith; rest = behind words e }
@@ -89,27 +98,25 @@ module _ {ws cs : List ℤ} {starts ends : List ℕ} {at end : ℕ} {ρ : Valuat
   expression-shape = and-left (expressionAt (role l) (isExpression ls) (isExpressionTerm ls)) (isExpressionTerm ss) (r .shape)
 
   -- ---- a variable
-  variable-here : tagWord l (termCount ls) ≡ pos 3 → (v : ℕ) → v ≡ natAbs (word ws (at + 1)) → VariableItem ws cs starts ends at end ρ us v
+  variable-here : tagWord l (termCount ls) ≡ pos variableTag → (v : ℕ) → v ≡ natAbs (word ws (at + 1)) → VariableItem ws cs starts ends at end ρ us v
   unfolding valueWords Within
   variable-here h v e =
-      let t = tag-three l (termCount ls) h in
-      let d : word ws (at + 1) ≡ pos (t .0) = stands-word (r .stands) 1 (pos 0) (omega arith) ∙ ap datumWord (t .1) in
-      let p : l ≡ variable v = t .1 ∙ ap variable (sym (e ∙ ap natAbs d)) in
-      let i = variable-item ρ l ls ss us (r .emits) v (ap role p) in
+      let (u, k, x) = variable-tag l (termCount ls) in-range h in
+      let d : word ws (at + 1) ≡ pos u = stands-word (r .stands) 1 (pos 0) (omega arith) ∙ x .datum in
+      let i = variable-item ρ l ls ss us (r .emits) v (k ∙ ap aVariable (sym (e ∙ ap natAbs d))) in
       let b = r .binds .places v (i .0) (i .2) in
-      let x : T (okNode (variable v) ls) = subst (λ (m : Label). T (okNode m ls)) p (okay l ls ss (r .good) .allowed) in
-      let z : ls ≡ nil = childless ls (eqb→eq (termCount ls) 0 (and-right (ltb v 16) (eqb (termCount ls) 0) x)) in
+      let z : ls ≡ nil = childless ls (x .childless) in
       let q : at + length (encode (single this)) ≡ at + 2 = ap (λ (f : Forest). at + length (encode (node l f nil))) z in
       let m : getD ends v 0 - getD starts v 0 ≡ length (encode (single (i .0))) = omega (arith, b .ends) in
-      let k : part cs (getD starts v 0) (getD ends v 0) ≡ encode (single (i .0)) = ap (λ (j : ℕ). take j (drop (getD starts v 0) cs)) m ∙ b .stands .words in
+      let j : part cs (getD starts v 0) (getD ends v 0) ≡ encode (single (i .0)) = ap (λ (j : ℕ). take j (drop (getD starts v 0) cs)) m ∙ b .stands .words in
       record {
         datum = subst⁻¹ (λ (y : ℤ). T (nonNeg y)) d tt;
         low = b .variable;
-        item = record { within = (omega (arith, b .ends), omega (arith, b .ends, b .stands .within)); leads = subst₂ (λ (vs : List ℤ) (j : ℕ). LeadsOn ws cs starts ends at end ρ us vs j) (sym k) q (leads-on (i .0) (i .1) (i .3) (i .4)) };
+        item = record { within = (omega (arith, b .ends), omega (arith, b .ends, b .stands .within)); leads = subst₂ (λ (vs : List ℤ) (j : ℕ). LeadsOn ws cs starts ends at end ρ us vs j) (sym j) q (leads-on (i .0) (i .1) (i .3) (i .4)) };
       }
 
   -- ---- a call: an expression that is worth a function's value
-  module _ (tag : tagWord l (termCount ls) ≡ pos 4) where
+  module _ (tag : tagWord l (termCount ls) ≡ pos callTag) where
     record CallItem : Type 0 where
       code : ℕ
       arguments : Forest
@@ -118,7 +125,7 @@ module _ {ws cs : List ℤ} {starts ends : List ℕ} {at end : ℕ} {ρ : Valuat
 
     call-here : CallItem
     call-here =
-        let (c, k) = tag-call l (termCount ls) tag in
+        let (c, k, n) = call-tag l (termCount ls) in-range tag in
         let i = call-item ρ l ls ss us (r .emits) c k in
         let x = subst (λ (z : Role). T (expressionAt z (isExpression ls) (isExpressionTerm ls))) k expression-shape in
         let y : T (isExpression (single this)) = subst (λ (z : Role). T (expressionAt z (isExpression ls) (isGround ls) && isExpression nil)) (sym k) (and-both (isExpression ls) (isExpression nil) x tt) in
@@ -156,9 +163,9 @@ module _ {ws cs : List ℤ} {starts ends : List ℕ} {at end : ℕ} {ρ : Valuat
   two-stand : Stands ws at (two ++ encode (appended ls ss))
   two-stand = subst (Stands ws at) flattened (r .stands)
 
-  node-leads : (tagWord l (termCount ls) ≡ pos 3 → ⊥) → (tagWord l (termCount ls) ≡ pos 4 → ⊥) → LeadsOn ws cs starts ends at end ρ us two (at + 2)
+  node-leads : (tagWord l (termCount ls) ≡ pos variableTag → ⊥) → (tagWord l (termCount ls) ≡ pos callTag → ⊥) → LeadsOn ws cs starts ends at end ρ us two (at + 2)
   node-leads f g =
-      let k = tag-plain l (termCount ls) f g in
+      let k = plain-tag l (termCount ls) in-range f g in
       let i = plain-item ρ l ls ss us (r .emits) k in
       let o = okay l ls ss (r .good) in
       record {
@@ -177,7 +184,7 @@ module _ {ws cs : List ℤ} {starts ends : List ℕ} {at end : ℕ} {ρ : Valuat
             };
       }
 
-  node-item : (tagWord l (termCount ls) ≡ pos 3 → ⊥) → (tagWord l (termCount ls) ≡ pos 4 → ⊥) → ItemOf ws cs starts ends at end ρ us (record { value = W.Table at (at + 2); next = at + 2 })
+  node-item : (tagWord l (termCount ls) ≡ pos variableTag → ⊥) → (tagWord l (termCount ls) ≡ pos callTag → ⊥) → ItemOf ws cs starts ends at end ρ us (record { value = W.Table at (at + 2); next = at + 2 })
   unfolding valueWords Within
   node-item f g =
       let h : Stands ws at two = stands-first two (encode (appended ls ss)) two-stand in
@@ -193,18 +200,18 @@ module _ (ws : List ℤ) (starts ends : List ℕ) (at : ℕ) where
   pub piece-within : SomePiece ws starts ends at → at + 2 ≤ length ws
   piece-within s = node-within (s .before) (s .rest)
 
-  module _ (three : word ws at ≡ pos 3) (v : ℕ) (number : v ≡ natAbs (word ws (at + 1))) where
-    pub variable-fits : SomePiece ws starts ends at → T (nonNeg (word ws (at + 1))) × (v < 16)
+  module _ (three : word ws at ≡ pos variableTag) (v : ℕ) (number : v ≡ natAbs (word ws (at + 1))) where
+    pub variable-fits : SomePiece ws starts ends at → T (nonNeg (word ws (at + 1))) × (v < variables)
     variable-fits s = first (s .rest .terms) (s .before) (s .rest .is) λ l ls ss r t. let x = variable-here r (sym t ∙ three) v number in (x .datum, x .low)
 
     pub variable-is : PieceIs ws starts ends at (record { value = W.Configuration (getD starts v 0) (getD ends v 0); next = at + 2 })
     variable-is = record { is = λ cs end ρ f us below r. first f below r (λ l ls ss k t. variable-here k (sym t ∙ three) v number .item) }
 
-  pub node-is : (word ws at ≡ pos 3 → ⊥) → (word ws at ≡ pos 4 → ⊥) → PieceIs ws starts ends at (record { value = W.Table at (at + 2); next = at + 2 })
+  pub node-is : (word ws at ≡ pos variableTag → ⊥) → (word ws at ≡ pos callTag → ⊥) → PieceIs ws starts ends at (record { value = W.Table at (at + 2); next = at + 2 })
   node-is f g = record { is = λ cs end ρ h us below r. first h below r (λ l ls ss k t. node-item k (λ e. f (t ∙ e)) (λ e. g (t ∙ e))) }
 
 -- ---- `item` at a call
-module _ (ws cs : List ℤ) (starts ends : List ℕ) (at end : ℕ) (below : at < end) (four : word ws at ≡ pos 4) where
+module _ (ws cs : List ℤ) (starts ends : List ℕ) (at end : ℕ) (below : at < end) (four : word ws at ≡ pos callTag) where
   pub evaluate-needs : SomeRest ws cs starts ends at end → ExpressionIn ws cs starts ends at
   evaluate-needs s = first (s .terms) below (s .is) λ l ls ss r t. expression-in r (sym t ∙ four)
 
@@ -213,7 +220,7 @@ module _ (ws cs : List ℤ) (starts ends : List ℕ) (at end : ℕ) (below : at 
 
 -- ---- `item_size`: a call that gives one node, or else the item's own size
 module _ (ws : List ℤ) (at : ℕ) where
-  pub one-node-call : word ws at ≡ pos 4 → OneNodeIs ws at true
+  pub one-node-call : word ws at ≡ pos callTag → OneNodeIs ws at true
   one-node-call four = record { call = λ e. four; size = λ e cs starts ends end ρ f us below r next x. first f below r (λ l ls ss k t. call-size k (sym t ∙ four) next x) }
 
   pub no-one-node : OneNodeIs ws at false

@@ -1,9 +1,9 @@
 // A call of two arguments that are variables or literals without children, as most calls are: its value needs no recursion.
-use crate::CALL;
-use crate::VARIABLE;
 use crate::builtin::Root;
 use crate::builtin::apply;
 use crate::leaf::root_at;
+use term::CALL;
+use term::VARIABLE;
 ghost use mathlib.Core.Path.{_≡_};
 ghost use mathlib.Core.Bool.{true};
 ghost use Rattle.value.specs.Short.{CallThere, Short, ShortIn, ShortContract, ArgumentIn, ArgumentContract};
