@@ -13,22 +13,14 @@ use mir.Syntax.{w64}
 use mir.Val.{SFits, ofZ}
 use Rattle.term.proofs.SignedLaw.{same-bits}
 use Rattle.minuska.specs.Basics.{sameWhole}
-<<<<<<< HEAD
-use Rattle.minuska.specs.Term.{Label, Forest, nil, node, Term, single, termCount, plain, role, groundAt}
-use Rattle.minuska.specs.Word.{tagWord, datumWord, encode}
-=======
 use Rattle.minuska.specs.Term.{Label, Forest, nil, node, Term, single, termCount, Role, aVariable, aCall, plain, role, groundAt}
 use Rattle.minuska.specs.Computed.Read.{variableTag}
 use Rattle.minuska.specs.Word.{tagWord, datumWord, okHead, encode}
->>>>>>> 7b7156eb89a9617c7a8c77db9a60e577169829f9
 use Rattle.minuska.specs.Satisfaction.{Valuation}
 use Rattle.minuska.specs.Rule.{symbolicAt}
 use Rattle.minuska.specs.Bridge.Place.{Stands, GroundAt, GroundEnds}
 use Rattle.minuska.proofs.Tests.{same-whole, whole-same}
-<<<<<<< HEAD
-=======
 use Rattle.minuska.proofs.NodeLaw.{NodeIs, node-is}
->>>>>>> 7b7156eb89a9617c7a8c77db9a60e577169829f9
 use Rattle.minuska.proofs.WordLaw.{childless, okay, okay-all, head-okay, appended, encode-appended}
 use Rattle.minuska.proofs.Bridge.PlaceLaw.{stands-word, stands-head, stands-first, stands-second, stands-unique}
 use Rattle.minuska.proofs.Bridge.AppendedLaw.{first-words, appended-count, appended-ok, labels, labels-all, appended-labels}

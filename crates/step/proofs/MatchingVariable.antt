@@ -14,11 +14,7 @@ use lib.ListN.{length, take, drop, getD, length-append}
 use borrow.Author.Tests.{eq-eqb, ne-eqb}
 use Rattle.minuska.specs.Basics.{provided}
 use Rattle.minuska.specs.Term.{Label, variable, Forest, nil, node, Term, single, termCount, role, groundAt}
-<<<<<<< HEAD
-use Rattle.minuska.specs.Word.{tagWord, datumWord, okNode, encode}
-=======
 use Rattle.minuska.specs.Word.{variables, tagWord, datumWord, encode}
->>>>>>> 7b7156eb89a9617c7a8c77db9a60e577169829f9
 use Rattle.minuska.specs.Satisfaction.{Valuation}
 use Rattle.minuska.specs.Rule.{symbolicAt}
 use Rattle.minuska.specs.Computed.Read.{variableTag}

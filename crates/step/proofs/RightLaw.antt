@@ -10,13 +10,8 @@ use lib.IntN.{ℤ, pos, natAbs}
 use lib.ListN.{length, take, drop, getD, length-append}
 use lib.Signed.{nonNeg}
 use Rattle.minuska.specs.Basics.{_>>=_}
-<<<<<<< HEAD
-use Rattle.minuska.specs.Term.{Label, whole, variable, call, Forest, nil, node, Term, single, leaf, termCount, Role, plain, role, isGround}
-use Rattle.minuska.specs.Word.{okNode, tagWord, datumWord, encode}
-=======
 use Rattle.minuska.specs.Term.{Label, whole, variable, call, Forest, nil, node, Term, single, leaf, termCount, Role, aVariable, role, isGround}
 use Rattle.minuska.specs.Word.{variables, okHead, tagWord, datumWord, encode}
->>>>>>> 7b7156eb89a9617c7a8c77db9a60e577169829f9
 use Rattle.minuska.specs.Function.{inWord, shareRange, outOfRange, interpret}
 use Rattle.minuska.specs.Satisfaction.{Valuation}
 use Rattle.minuska.specs.Rule.{expressionAt, isExpression, isExpressionTerm}
