@@ -1,11 +1,12 @@
 -- A call of two short arguments: what stands there, and that its value is meant.
 use mathlib.Core.Path.{_≡_, refl, sym, _∙_, ap, subst}
 use mathlib.Core.Bool.{true, false}
+use mathlib.Core.Logic.{_⊎_, inl, inr}
 use mathlib.Core.List.{List}
-use Prim.Native.Nat.{ℕ, suc, _+_, _≤_, _<_}
+use Prim.Native.Nat.{ℕ, zero, suc, _+_, _≤_, _<_}
 use native.Mathlib.Omega.{arith}
 use lib.Dec.{ltb}
-use lib.IntN.{ℤ, pos, natAbs}
+use lib.IntN.{ℤ, pos, negsuc, natAbs}
 use lib.ListN.{length, getD}
 use lib.Signed.{ltZ}
 use borrow.Author.Tests.{ltb-true, lt-ltb, le-ltb}
@@ -15,31 +16,30 @@ use Rattle.minuska.specs.Function.{argument, functionAt}
 use Rattle.minuska.specs.Satisfaction.{Valuation}
 use Rattle.value.specs.Evaluate.{HasValue, firstOf, restOf}
 use Rattle.value.specs.Short.{Short}
-use Rattle.value.proofs.ExpressionLaw.{CallHere, MoreHere, Here, variable-is, call-is, ground-is, here, is-literal, is-more, no-more}
+use Rattle.value.proofs.ExpressionLaw.{CallHere, MoreHere, is-variable, is-literal, is-more, no-more}
 use Rattle.value.proofs.MeantLaw.{first-long}
 
 one-less : (es : Forest) (n : ℕ) → termCount es ≡ suc n → termCount (restOf es) ≡ n
 one-less nil n e = absurd (let z : ⊥ = omega arith in z)
 one-less (node l cs ss) n e = omega arith
 
+-- a tag below 4 is a variable's or below
+below-four : (z : ℤ) → ltZ z (pos 4) ≡ true → (z ≡ pos 3) ⊎ (ltZ z (pos 3) ≡ true)
+below-four (pos zero) h = inr refl
+below-four (pos (suc zero)) h = inr refl
+below-four (pos (suc (suc zero))) h = inr refl
+below-four (pos (suc (suc (suc zero)))) h = inl refl
+below-four (pos (suc (suc (suc (suc n))))) h = absurd (let k : suc (suc (suc (suc n))) < 4 = ltb-true (suc (suc (suc (suc n)))) 4 h in omega arith)
+below-four (negsuc n) h = inr refl
+
 module _ (table config : List ℤ) (starts ends : List ℕ) (at : ℕ) (ρ : Valuation) where
   -- a short argument has two words
   pub short-long : (e t : Term) → HasValue table config starts ends at ρ e t → ltZ (getD table at (pos 0)) (pos 4) ≡ true → length (encode (single e)) ≡ 2
-  short-long e t w h = go (here table config starts ends at ρ e t w)
+  short-long e t w h = go (below-four (getD table at (pos 0)) h)
     where
-      below : (n : ℕ) → getD table at (pos 0) ≡ pos n → n < 4
-      below n p = ltb-true n 4 (subst (λ (z : ℤ). ltZ z (pos 4) ≡ true) p h)
-
-      go : Here table config starts ends at ρ e t → length (encode (single e)) ≡ 2
-      go (variable-is p x) = x .long
-      go (call-is p x) = absurd (let k = below 4 p in omega arith)
-      go (ground-is n p a b x) =
-          let k = below n p in
-          let m : n < 3 = above n k a in
-          is-literal table config starts ends at ρ e t w (subst (λ (z : ℤ). ltZ z (pos 3) ≡ true) (sym p) (lt-ltb n 3 m)) .1
-        where
-          above : (n : ℕ) → n < 4 → (n ≡ 3 → ⊥) → n < 3
-          above n k a = omega arith
+      go : (getD table at (pos 0) ≡ pos 3) ⊎ (ltZ (getD table at (pos 0)) (pos 3) ≡ true) → length (encode (single e)) ≡ 2
+      go (inl p) = is-variable table config starts ends at ρ e t w p .long
+      go (inr p) = is-literal table config starts ends at ρ e t w p .1
 
   -- the two arguments of a call of two
   pub record TwoHere (e t : Term) (k : CallHere table config starts ends at ρ e t) : Type 0 where
