@@ -27,7 +27,7 @@ use Rattle.minuska.proofs.Bridge.PositionLaw.{few-rules, order-length}
 use Rattle.minuska.specs.Bridge.Place.{RuleCountIs}
 use Rattle.minuska.proofs.Bridge.AcceptedLaw.{configuration-length, refused-first}
 use Rattle.step.specs.Accept.{AcceptContract}
-use Rattle.sizes.specs.Sizes.{sizeCheck, Sized}
+use Rattle.sizes.specs.Sizes.{sizeCheck, SizesHold}
 use Rattle.sizes.proofs.SizesLaw.{neither, sizes-refuse, sizes-pass}
 use Rattle.memory.specs.Layout.{base}
 use Rattle.replay.specs.declared.CountedAnswer.{CountedAnswer}
@@ -88,7 +88,7 @@ module _ (ws cs : List ℤ) (log : List ℕ) (limit : ℕ) (out : List ℤ) (cho
         refusal e (replay-outcome-is ws cs log limit (length out) (length choices) (length work) ∙ sizes-refuse ws cs (tableOf ws) (termOf cs) table config (λ u v. replay u limit log v) (length log) maxActions limit short e s)
 
     -- none of them: the replay
-    module _ (f : Sized (length log) maxActions (length cs / 2) limit short) where
+    module _ (f : SizesHold (length log) maxActions (length cs / 2) limit short) where
       roomy : (2 * limit ≤ length out) × (length log ≤ length choices) × (workWords limit log ≤ length work)
       roomy =
           let p = neither (ltb (length out) (2 * limit) || ltb (length choices) (length log)) (ltb (length work) (workWords limit log)) (f .roomy) in

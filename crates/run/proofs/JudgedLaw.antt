@@ -14,7 +14,7 @@ use Rattle.minuska.specs.Slice.{stepAnswer, endedAs, runAnswer}
 use Rattle.minuska.specs.Computed.Step.{step}
 use Rattle.minuska.specs.Computed.Run.{endedAt, oneMore, lastTurn, turn, run}
 use Rattle.minuska.proofs.ShutLaw.{run-zero-is, run-suc-is}
-use Rattle.run.specs.declared.Verdict.the-variants.{On, End}
+use Rattle.run.specs.declared.Progress.the-variants.{On, End}
 use Rattle.run.specs.Sides.{judged}
 
 -- a run with k steps before it

@@ -24,7 +24,7 @@ use Rattle.minuska.proofs.ShutLaw.{step-outcome-is, step-out-stepped}
 use Rattle.minuska.proofs.Bridge.AcceptedLaw.{term-length, configuration-length}
 use Rattle.run.specs.declared.Side.{Side}
 use Rattle.run.specs.declared.Side.the-variants.{Initial}
-use Rattle.run.specs.declared.Verdict.the-variants.{On, End}
+use Rattle.run.specs.declared.Progress.the-variants.{On, End}
 use Rattle.run.specs.Sides.{bySide, other, StartsWith, StepsAcross, judged}
 use Rattle.run.specs.Ending.{RunEnds}
 use Rattle.run.proofs.SidesLaw.{next-stands, current-keeps, both-behind, either}

@@ -2,7 +2,7 @@
 use Prim.Native.Nat.{ℕ}
 use Rattle.minuska.specs.Rule.{maxSteps}
 use Rattle.minuska.specs.Computed.Outcome.{runShort}
-use Rattle.sizes.specs.Sizes.{Sized}
+use Rattle.sizes.specs.Sizes.{SizesHold}
 
 abbrev pub Allowed : ℕ → ℕ → ℕ → ℕ → ℕ → Type 0
-Allowed nodes budget limit out spare = Sized budget maxSteps nodes limit (runShort limit out spare)
+Allowed nodes budget limit out spare = SizesHold budget maxSteps nodes limit (runShort limit out spare)

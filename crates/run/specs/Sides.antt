@@ -15,8 +15,8 @@ use Rattle.minuska.specs.Computed.Outcome.{stepOutcome}
 use Rattle.minuska.specs.Bridge.Place.{Accepted}
 use Rattle.run.specs.declared.Side.{Side}
 use Rattle.run.specs.declared.Side.the-variants.{Initial, Out, Spare}
-use Rattle.run.specs.declared.Verdict.{Verdict}
-use Rattle.run.specs.declared.Verdict.the-variants.{On, End}
+use Rattle.run.specs.declared.Progress.{Progress}
+use Rattle.run.specs.declared.Progress.the-variants.{On, End}
 
 -- one of three, by the side
 abbrev pub bySide : {A : Type 0} → Side → A → A → A → A
@@ -46,7 +46,7 @@ pub record StepsAcross (table config : List ℤ) (side : Side) (nodes words : �
 
 -- What a step's answer after k steps comes to. "It ends stuck after k steps, or spent if k equals the budget and some rule still applies, or with 6 if
 -- k is below the budget and the next successor exceeds N nodes."
-abbrev pub judged : StepAnswer → ℕ → ℕ → Verdict
+abbrev pub judged : StepAnswer → ℕ → ℕ → Progress
 judged (S.Stepped rule action nodes) k budget = cond (ltb k budget) (On nodes) (End (R.Spent k))
 judged S.Stuck k budget = End (R.Stuck k)
 judged (S.Refused r) k budget = cond (ltb k budget) (End (R.Over k)) (End (R.Spent k))

@@ -24,7 +24,7 @@ enum Side {
 }
 
 // What a step's answer comes to: on, with a successor of so many nodes, or an end.
-enum Verdict {
+enum Progress {
     On(usize),
     End(RunAnswer),
 }
@@ -85,7 +85,7 @@ fn step_across<'a>(
 }
 
 // What a step's answer comes to after k steps: at the budget's end a rule that applies, whatever its successor's size, is spent.
-fn judge(answer: StepAnswer, k: usize, budget: usize) -> Verdict
+fn judge(answer: StepAnswer, k: usize, budget: usize) -> Progress
     ensures { λ r. ⌜ r ≡ judged answer k budget ⌝ }
 {
     match answer {
@@ -95,16 +95,16 @@ fn judge(answer: StepAnswer, k: usize, budget: usize) -> Verdict
             nodes,
         } => {
             if budget <= k {
-                return Verdict::End(RunAnswer::Spent(k));
+                return Progress::End(RunAnswer::Spent(k));
             }
-            Verdict::On(nodes)
+            Progress::On(nodes)
         }
-        StepAnswer::Stuck => Verdict::End(RunAnswer::Stuck(k)),
+        StepAnswer::Stuck => Progress::End(RunAnswer::Stuck(k)),
         StepAnswer::Refused(_) => {
             if k < budget {
-                return Verdict::End(RunAnswer::Over(k));
+                return Progress::End(RunAnswer::Over(k));
             }
-            Verdict::End(RunAnswer::Spent(k))
+            Progress::End(RunAnswer::Spent(k))
         }
     }
 }
@@ -128,14 +128,14 @@ fn advance<'a>(
     let mut k = 0;
     loop {
         let answer = step_across(table, index, configuration, side, nodes, words, out, spare);
-        let verdict = judge(answer, k, budget);
-        match verdict {
-            Verdict::On(made) => {
+        let progress = judge(answer, k, budget);
+        match progress {
+            Progress::On(made) => {
                 side = other_side(side);
                 nodes = made;
                 k += 1;
             }
-            Verdict::End(answer) => {
+            Progress::End(answer) => {
                 return Ended {
                     answer,
                     side,

@@ -17,7 +17,7 @@ use Rattle.minuska.specs.Answer.{Outcome, refused, gives}
 use Rattle.minuska.specs.Computed.Outcome.{Test, tested, sizeTests, limitRefused, onWords}
 use Rattle.minuska.proofs.OutcomeLaw.{on-words}
 use Rattle.minuska.proofs.Bridge.AcceptedLaw.{configuration-length}
-use Rattle.sizes.specs.Sizes.{firstTest, limitOutside, sizeCheck, Sized}
+use Rattle.sizes.specs.Sizes.{firstTest, limitOutside, sizeCheck, SizesHold}
 
 -- two tests that do not pass
 pub neither : (a b : Bool) → a || b ≡ false → (a ≡ false) × (b ≡ false)
@@ -32,7 +32,7 @@ module _ (n most nodes limit : ℕ) (short : Bool) where
   none-given false false true e = absurd (let z : _≡_ {A = ℕ} 0 1 = cc in let f : ⊥ = omega arith in f)
   none-given false false false e = (refl, refl, refl)
 
-  pub sized : sizeCheck n most nodes limit short ≡ Good → Sized n most nodes limit short
+  pub sized : sizeCheck n most nodes limit short ≡ Good → SizesHold n most nodes limit short
   unfolding sizeCheck
   sized e =
       let p = none-given (ltb most n) (limitOutside limit nodes) short e in
@@ -41,7 +41,7 @@ module _ (n most nodes limit : ℕ) (short : Bool) where
       let z : limit ≡ 0 → ⊥ = eqb-false limit 0 (r .0) in
       record { few = ltb-false most n (p .0); positive = omega (arith, z); bounded = ltb-false maxNodes limit (r .1); fits = ltb-false limit nodes (q .1); roomy = p .2 }
 
-  pub sizes-good : Sized n most nodes limit short → sizeCheck n most nodes limit short ≡ Good
+  pub sizes-good : SizesHold n most nodes limit short → sizeCheck n most nodes limit short ≡ Good
   unfolding sizeCheck
   sizes-good s =
       let p = s .positive in
@@ -109,5 +109,5 @@ module _ {A : Type 0} (ws cs : List ℤ) (t : Table) (g : Term) (p : IsTable ws 
   pub sizes-refuse : (r : Refusal) → sizeCheck n most (length cs / 2) limit short ≡ Refused r → outcome ≡ refused r
   sizes-refuse r e = outcome-is ∙ tested-refused (answer t g) tests r (sym check-is ∙ e)
 
-  pub sizes-pass : Sized n most (length cs / 2) limit short → outcome ≡ gives (answer t g)
+  pub sizes-pass : SizesHold n most (length cs / 2) limit short → outcome ≡ gives (answer t g)
   sizes-pass s = outcome-is ∙ tested-good (answer t g) tests (sym check-is ∙ sizes-good n most (length cs / 2) limit short s)

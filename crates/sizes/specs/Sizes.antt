@@ -23,7 +23,7 @@ unfoldable pub sizeCheck : ℕ → ℕ → ℕ → ℕ → Bool → Check
 sizeCheck count most nodes limit short = firstTest (sizeTests (ltb most count) (limitOutside limit nodes) short)
 
 -- none of them
-pub record Sized (count most nodes limit : ℕ) (short : Bool) : Type 0 where
+pub record SizesHold (count most nodes limit : ℕ) (short : Bool) : Type 0 where
   pub few : count ≤ most
   pub positive : 0 < limit
   pub bounded : limit ≤ maxNodes

@@ -8,7 +8,7 @@ use Rattle.minuska.specs.declared.Check.{Check}
 use Rattle.minuska.specs.declared.Check.the-variants.{Good, Refused}
 use Rattle.minuska.specs.Rule.{maxActions}
 use Rattle.minuska.specs.Computed.Outcome.{replayShort}
-use Rattle.sizes.specs.Sizes.{sizeCheck, Sized}
+use Rattle.sizes.specs.Sizes.{sizeCheck, SizesHold}
 use Rattle.sizes.proofs.SizesLaw.{sized}
 use Rattle.replay.proofs.CallLaw.{not-accepted, not-sized, room-fits, slices-fit, called}
 use borrow.Author.Needs.{needs}
@@ -48,7 +48,7 @@ sizes z r e =
 
 -- and where nothing is refused
 fitting : (m : tie.After-enum-told2) → let a = m .before .before .before .before .before .before .before .before .before .before .args in
-    Sized (length (a .log .now)) maxActions (length (a .configuration .now) / 2) (a .limit) (replayShort (a .limit) (a .log .now) (length (a .out .now)) (length (a .choices .now)) (length (a .work .now)))
+    SizesHold (length (a .log .now)) maxActions (length (a .configuration .now) / 2) (a .limit) (replayShort (a .limit) (a .log .now) (length (a .out .now)) (length (a .choices .now)) (length (a .work .now)))
 fitting m =
     let z = m .before .before in
     let a = z .before .before .before .before .before .before .before .before .args in

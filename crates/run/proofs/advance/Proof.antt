@@ -49,8 +49,8 @@ step-across-requires c κs =
 judge-requires : tie.Need-judge-requires Inv-loop μ-loop
 judge-requires c κs = search needs
 
-enum-known-verdict : tie.Need-enum-known-verdict Inv-loop μ-loop
-enum-known-verdict c = search needs
+enum-known-progress : tie.Need-enum-known-progress Inv-loop μ-loop
+enum-known-progress c = search needs
 
 other-side-requires : tie.Need-other-side-requires Inv-loop μ-loop
 other-side-requires c κs = search needs
@@ -60,7 +60,7 @@ next : (c : tie.After-other-side Inv-loop μ-loop) →
     let b = c .before .before .before .before .before .before .before in
     let l = b .before .before .before .loop in
     let a = b .before .before .before .before .args in
-    RunReached (a .table .now) (a .configuration .now) (a .budget) (a .limit) (a .out .now) (a .spare .now) (other (l .side)) (c .before .before .verdict .given .0 .0) (l .k + 1)
+    RunReached (a .table .now) (a .configuration .now) (a .budget) (a .limit) (a .out .now) (a .spare .now) (other (l .side)) (c .before .before .progress .given .0 .0) (l .k + 1)
     (b .step-across .last .1 .1 .1 .1 .1 .1 .0) (b .step-across .last .1 .1 .1 .1 .1 .1 .1 .0)
 next c =
     let b = c .before .before .before .before .before .before .before in
@@ -69,8 +69,8 @@ next c =
     let a = s .args in
     let j = c .before .before .before .before .judge in
     reached-more (a .table .now) (a .configuration .now) (a .budget) (a .limit) (a .out .now) (a .spare .now) (l .side) (l .nodes) (l .k) (l .out) (l .spare) (l .inv)
-    (b .step-across .last .1 .1 .1 .1 .1 .1 .0) (b .step-across .last .1 .1 .1 .1 .1 .1 .1 .0) (b .step-across .result) (b .step-across .ensures) (c .before .before .verdict .given .0 .0)
-    (sym (j .ensures) ∙ c .before .before .verdict .given .1) (b .step-across .kept .1 .1 .1 .1 .1 .1 .0) (b .step-across .kept .1 .1 .1 .1 .1 .1 .1 .0) (words-fit s .0) (words-fit s .1)
+    (b .step-across .last .1 .1 .1 .1 .1 .1 .0) (b .step-across .last .1 .1 .1 .1 .1 .1 .1 .0) (b .step-across .result) (b .step-across .ensures) (c .before .before .progress .given .0 .0)
+    (sym (j .ensures) ∙ c .before .before .progress .given .1) (b .step-across .kept .1 .1 .1 .1 .1 .1 .0) (b .step-across .kept .1 .1 .1 .1 .1 .1 .1 .0) (words-fit s .0) (words-fit s .1)
 
 add-k : tie.Need-add-k Inv-loop μ-loop
 add-k c =
@@ -85,8 +85,8 @@ loop-less c = let e = next c .counts in omega arith
 loop-again : tie.Need-loop-again Inv-loop μ-loop
 loop-again c = rw (c .other-side .ensures) (next c)
 
-enum-known-verdict-2 : tie.Need-enum-known-verdict-2 Inv-loop μ-loop
-enum-known-verdict-2 c = search needs
+enum-known-progress-2 : tie.Need-enum-known-progress-2 Inv-loop μ-loop
+enum-known-progress-2 c = search needs
 
 same-length : tie.Need-same-length Inv-loop μ-loop
 same-length c =
@@ -105,8 +105,8 @@ returns c =
     let a = b .before .before .before .before .args in
     let j = c .before .before .before .judge in
     reached-end (a .table .now) (a .configuration .now) (a .budget) (a .limit) (a .out .now) (a .spare .now) (l .side) (l .nodes) (l .k) (l .out) (l .spare) (l .inv)
-    (b .step-across .last .1 .1 .1 .1 .1 .1 .0) (b .step-across .last .1 .1 .1 .1 .1 .1 .1 .0) (b .step-across .result) (b .step-across .ensures) (c .before .verdict2 .given .0 .0)
-    (sym (j .ensures) ∙ c .before .verdict2 .given .1)
+    (b .step-across .last .1 .1 .1 .1 .1 .1 .0) (b .step-across .last .1 .1 .1 .1 .1 .1 .1 .0) (b .step-across .result) (b .step-across .ensures) (c .before .progress2 .given .0 .0)
+    (sym (j .ensures) ∙ c .before .progress2 .given .1)
 
 pub advance-spec : {M : Type 1} → statement M
 advance-spec =
@@ -118,12 +118,12 @@ advance-spec =
     loop-holds
     step-across-requires
     judge-requires
-    enum-known-verdict
+    enum-known-progress
     other-side-requires
     add-k
     loop-less
     loop-again
-    enum-known-verdict-2
+    enum-known-progress-2
     same-length
     same-length-2
     returns)
