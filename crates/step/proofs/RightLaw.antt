@@ -1,5 +1,5 @@
 -- One item of a right, by the node's tag: a variable's part, a call's value, or a plain node's two words; its size; and the rest behind it.
-use mathlib.Core.Path.{_≡_, refl, sym, _∙_, ap, subst, subst⁻¹, subst₂}
+use mathlib.Core.Path.{_≡_, refl, sym, _∙_, ap, ap₂, subst, subst⁻¹, subst₂}
 use mathlib.Core.Bool.{Bool, true, false, _&&_, cond, false≢true}
 use mathlib.Core.Option.{Option, some}
 use mathlib.Core.List.{List, [], _∷_, _++_}
@@ -30,9 +30,11 @@ use Rattle.term.specs.TermAt.{TermAt, TermEnds}
 use Rattle.value.specs.declared.Evaluated.{Evaluated}
 use Rattle.value.specs.declared.Value.the-variants as W
 use Rattle.value.specs.Value.{valueWords, Within, sizeOf, Ordered}
-use Rattle.value.specs.Evaluate.{HasValue, ExpressionIn, EvaluateContract}
+use Rattle.value.specs.declared.builtin.Root.{Root}
+use Rattle.value.specs.Root.{given}
+use Rattle.value.specs.Evaluate.{HasValue, ExpressionIn, EvaluateContract, CallIn}
 use Rattle.value.proofs.WordsLaw.{size-is, within-ordered}
-use Rattle.step.specs.Right.{Rest, SomeRest, LeadsOn, ItemOf, ItemIs, SizedOf, SizedIs, SomePiece, PieceIs, OneNodeIs}
+use Rattle.step.specs.Right.{Rest, SomeRest, LeadsOn, ItemOf, ItemIs, SizedOf, SizedIs, SomePiece, PieceIs, OneNodeIs, FittingItem}
 use Rattle.step.proofs.MatchingLaw.{word}
 
 -- a node stands before the end, and its tag is read there
@@ -210,8 +212,16 @@ module _ (ws cs : List ℤ) (starts ends : List ℕ) (at end : ℕ) (below : at 
   pub evaluate-needs : SomeRest ws cs starts ends at end → ExpressionIn ws cs starts ends at
   evaluate-needs s = first (s .terms) below (s .is) λ l ls ss r t. expression-in r (sym t ∙ four)
 
+  pub call-needs : SomeRest ws cs starts ends at end → CallIn ws cs starts ends at
+  call-needs s = record { expression = evaluate-needs s; tag = four }
+
   pub evaluated-is : (s : Evaluated) → EvaluateContract ws cs starts ends at s → ItemIs ws cs starts ends at end s
   evaluated-is s c = record { is = λ ρ f us r. first f below r (λ l ls ss k t. evaluated-item k (sym t ∙ four) s c) }
+
+-- what a function gives, as two words
+pub computed-given : (r : Root) (t d : ℤ) → t ≡ r .tag → d ≡ r .datum → W.Computed t d ≡ given r
+unfolding given
+computed-given r t d p q = ap₂ W.Computed p q
 
 -- ---- `item_size`: a call that gives one node, or else the item's own size
 module _ (ws : List ℤ) (at : ℕ) where
@@ -234,3 +244,16 @@ module _ (ws cs : List ℤ) (starts ends : List ℕ) (at end : ℕ) (below : at 
 
     pub item-sized : (n : ℕ) → n ≡ sizeOf (s .value) → SizedIs ws cs starts ends at end (record { words = n; next = s .next })
     item-sized n e = record { is = λ ρ f us r. let g = x .is ρ f us r in record { first = valueWords ws cs (s .value); many = e ∙ sym (size-is ws cs (s .value) (g .within)); leads = g .leads } }
+
+    -- ---- `write_item`: an item ends within the table, and there is room for its words
+    module _ (o room : ℕ) (k : FittingItem ws cs starts ends at end o room) where
+      this-item : ItemOf ws cs starts ends at end (k .rest .valuation) (k .rest .words) s
+      this-item = let i = k .rest in x .is (i .valuation) (i .terms) (i .words) (i .is)
+
+      pub item-ends : s .next ≤ length ws
+      item-ends = omega (arith, this-item .leads .rest .stands .within)
+
+      pub item-room : Within ws cs (s .value) × (o + sizeOf (s .value) ≤ room)
+      item-room =
+          let g = this-item in
+          (g .within, omega (arith, size-is ws cs (s .value) (g .within), ap length (g .leads .parted), length-append (valueWords ws cs (s .value)) (g .leads .words), k .fit))

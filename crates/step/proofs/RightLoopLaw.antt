@@ -13,13 +13,12 @@ use Rattle.minuska.specs.Term.{Forest, nil, node}
 use Rattle.minuska.specs.Satisfaction.{Valuation}
 use Rattle.minuska.specs.Slice.{write}
 use Rattle.value.specs.declared.Evaluated.{Evaluated}
-use Rattle.value.specs.Value.{valueWords, Within, sizeOf}
+use Rattle.value.specs.Value.{valueWords}
 use Rattle.value.specs.Copy.{written}
-use Rattle.value.proofs.WordsLaw.{size-is}
 use Rattle.step.specs.declared.right.Sized.{Sized}
 use Rattle.step.specs.declared.right.Fit.the-variants.{Words, TooLarge}
 use Rattle.step.specs.Apply.{fitOf}
-use Rattle.step.specs.Right.{Rest, SomeRest, LeadsOn, ItemOf, ItemIs, SizedOf, SizedIs, MeasureRightIs, FittingRest, WriteRightIs}
+use Rattle.step.specs.Right.{Rest, SomeRest, LeadsOn, ItemOf, ItemIs, SizedOf, SizedIs, MeasureRightIs, FittingItem, FittingRest, WriteRightIs}
 
 module _ (ws cs : List ℤ) (starts ends : List ℕ) (at end : ℕ) where
   -- how far the items have come: the words so far, and the rest from place i on
@@ -106,10 +105,11 @@ module _ (ws cs : List ℤ) (starts ends : List ℕ) (at end : ℕ) where
           (ap (drop (length ys)) (drop-append-seam xs (drop (length xs) out)) ∙ drop-drop (length ys) (length xs) out)
 
   module _ (out₀ : List ℤ) (i o : ℕ) (out : List ℤ) (m : Writing out₀ i o out) where
-    pub writing-rest : SomeRest ws cs starts ends at end → SomeRest ws cs starts ends i end
-    writing-rest s =
+    pub writing-fits : FittingRest ws cs starts ends at end (length out₀) → i < end → FittingItem ws cs starts ends i end o (length out₀)
+    writing-fits k h =
+        let s = k .rest in
         let (so-far, c, e, f) = m .come (s .valuation) (s .terms) (s .words) (s .is) in
-        record { valuation = s .valuation; terms = c .later; words = c .words; is = c .rest }
+        record { rest = record { valuation = s .valuation; terms = c .later; words = c .words; is = c .rest }; before = h; fit = omega (arith, k .fit, e, ap length (c .joined), length-append so-far (c .words)) }
 
     pub all-written : end ≤ i → WriteRightIs ws cs starts ends at end out₀ out
     all-written h = record { is = λ ρ f us r. let (so-far, c, e, w) = m .come ρ f us r in w ∙ ap (λ (z : List ℤ). write z out₀) (come-end us ρ i so-far c h) }
@@ -118,14 +118,6 @@ module _ (ws cs : List ℤ) (starts ends : List ℕ) (at end : ℕ) where
       pub writing-on : (o′ : ℕ) (out′ : List ℤ) → out′ ≡ written out o (valueWords ws cs (r .value)) → o′ ≡ o + length (valueWords ws cs (r .value)) → Writing out₀ (r .next) o′ out′
       writing-on o′ out′ p q =
           record { come = λ ρ f us z. let (so-far, c, e, w) = m .come ρ f us z in let v = valueWords ws cs (r .value) in (so-far ++ v, come-on us ρ i so-far c v (r .next) (come-item us ρ i so-far c r x .leads), q ∙ (ap (λ (n : ℕ). n + length v) e ∙ sym (length-append so-far v)), p ∙ (ap (λ (y : List ℤ). written y o v) w ∙ (ap (λ (n : ℕ). written (write so-far out₀) n v) e ∙ put-behind out₀ so-far v))) }
-
-      pub writing-room : FittingRest ws cs starts ends at end (length out₀) → Within ws cs (r .value) × (o + sizeOf (r .value) ≤ length out₀)
-      writing-room k =
-          let s = k .rest in
-          let n = k .fit in
-          let (so-far, c, e, w) = m .come (s .valuation) (s .terms) (s .words) (s .is) in
-          let t = come-item (s .words) (s .valuation) i so-far c r x in
-          (t .within, omega (arith, size-is ws cs (r .value) (t .within), come-size (s .words) (s .valuation) i so-far c (valueWords ws cs (r .value)) (r .next) (t .leads)))
 
       pub writing-forward : SomeRest ws cs starts ends at end → i < r .next
       writing-forward s = let (so-far, c, e, w) = m .come (s .valuation) (s .terms) (s .words) (s .is) in come-item (s .words) (s .valuation) i so-far c r x .leads .forward

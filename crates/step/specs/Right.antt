@@ -16,9 +16,12 @@ use Rattle.minuska.specs.Bridge.Walk.{emit}
 use Rattle.minuska.specs.Bridge.Place.{Stands, Binds}
 use Rattle.term.specs.TermAt.{TermEnds}
 use Rattle.value.specs.declared.Evaluated.{Evaluated}
+use Rattle.value.specs.declared.Value.{Value}
 use Rattle.value.specs.Value.{valueWords, Within}
+use Rattle.value.specs.Copy.{PutContract}
 use Rattle.step.specs.declared.right.Fit.{Fit}
 use Rattle.step.specs.declared.right.Sized.{Sized}
+use Rattle.step.specs.declared.right.Written.{Written}
 use Rattle.step.specs.Apply.{fitOf}
 
 module _ (ws cs : List ℤ) (starts ends : List ℕ) where
@@ -65,6 +68,17 @@ module _ (ws cs : List ℤ) (starts ends : List ℕ) where
   -- all items: how many words, if there is room; the words themselves, written from the start of a slice
   pub record MeasureRightIs (at end room : ℕ) (r : Fit) : Type 0 where
     pub is : (ρ : Valuation) (f : Forest) (us : List ℤ) → Rest at end ρ f us → r ≡ fitOf room (length us)
+
+  -- one item, written from a place of a slice on: some item that stands there, and the slice with its words put there
+  pub record FittingItem (at end o room : ℕ) : Type 0 where
+    pub rest : SomeRest at end
+    pub before : at < end
+    pub fit : o + length (rest .words) ≤ room
+
+  pub record WriteItemIs (at end : ℕ) (out : List ℤ) (o : ℕ) (out′ : List ℤ) (r : Written) : Type 0 where
+    pub value : Value
+    pub item : ItemIs at end (record { value = value; next = r .next })
+    pub puts : PutContract out o (valueWords ws cs value) out′ (r .place)
 
   pub record FittingRest (at end room : ℕ) : Type 0 where
     pub rest : SomeRest at end

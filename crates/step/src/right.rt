@@ -3,7 +3,7 @@ use value::Evaluated;
 use value::Value;
 ghost use Prim.Native.Nat.{_<_};
 ghost use lib.ListN.{length};
-ghost use Rattle.step.specs.Right.{SomeRest, ItemIs, SomePiece, PieceIs, OneNodeIs, SizedIs, MeasureRightIs, FittingRest, WriteRightIs};
+ghost use Rattle.step.specs.Right.{SomeRest, ItemIs, SomePiece, PieceIs, OneNodeIs, SizedIs, MeasureRightIs, FittingItem, WriteItemIs, FittingRest, WriteRightIs};
 
 // How many words a successor has, or that there is no room for them.
 pub enum Fit {
@@ -137,9 +137,54 @@ pub fn write_right<'a>(
     let mut i = at;
     let mut o: usize = 0;
     while i < end {
-        let x = item(table, configuration, i, end, starts, ends);
-        let v = x.value;
-        o = value::put(out, o, table, configuration, v);
+        let x = write_item(table, configuration, i, end, starts, ends, out, o);
+        o = x.place;
         i = x.next;
+    }
+}
+
+// The place behind an item's words, and the place behind the item.
+pub struct Written {
+    pub place: usize,
+    pub next: usize,
+}
+
+// Writes one item's words from a place of out on. A short call's two words are put as they are computed.
+pub fn write_item<'a>(
+    table: &'a [i64],
+    configuration: &'a [i64],
+    at: usize,
+    end: usize,
+    starts: &[usize; 16],
+    ends: &[usize; 16],
+    out: &mut [i64],
+    o: usize,
+) -> Written
+    requires { ⌜ FittingItem (now table) (now configuration) (now starts) (now ends) at end o (length (now out)) ⌝ }
+    ensures { λ r. ⌜ WriteItemIs (now (table .entry)) (now (configuration .entry)) (now (starts .entry)) (now (ends .entry)) at end (now (out .entry)) o (now (out .exit)) r ⌝ }
+{
+    let tag = term::word(table, at);
+    if tag == term::CALL {
+        if value::short::is_short_call(table, at) {
+            let r = value::short::short_call(table, configuration, at, starts);
+            let e = value::put(
+                out,
+                o,
+                table,
+                configuration,
+                Value::Computed(r.tag, r.datum),
+            );
+            return Written {
+                place: e,
+                next: at + 6,
+            };
+        }
+    }
+    let x = item(table, configuration, at, end, starts, ends);
+    let v = x.value;
+    let e = value::put(out, o, table, configuration, v);
+    Written {
+        place: e,
+        next: x.next,
     }
 }

@@ -13,7 +13,7 @@ ghost use Rattle.value.specs.Copy.{PutContract};
 pub mod builtin; // the fifteen functions
 mod expression; // a call's value and its argument list
 mod leaf; // values that need no recursion
-mod short; // calls whose value needs no recursion
+pub mod short; // calls whose value needs no recursion
 mod same; // whether two values are the same
 
 // Where a value is: a part of the table or of the configuration, from a place up to another; or two words, tag and datum, that were computed.

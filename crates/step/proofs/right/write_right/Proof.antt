@@ -1,8 +1,9 @@
-use mathlib.Core.Path.{_≡_, refl, _∙_}
-use Prim.Native.Nat.{_-_}
+use mathlib.Core.Path.{_≡_, refl, _∙_, subst⁻¹}
+use Prim.Native.Nat.{ℕ, _-_}
 use native.Mathlib.Omega.{arith}
 use lib.ListN.{length}
-use Rattle.step.proofs.RightLoopLaw.{Writing, writing-first, writing-rest, all-written, writing-on, writing-room, writing-forward}
+use Rattle.step.specs.Right.{FittingItem}
+use Rattle.step.proofs.RightLoopLaw.{Writing, writing-first, all-written, writing-fits, writing-on, writing-forward}
 use Rattle.step.proofs.right.write_right.Statement.{statement}
 use Rattle.step.proofs.right.write_right.Tie as tie
 
@@ -12,46 +13,33 @@ Inv-loop table configuration at end starts ends out₀ i₀ o₀ out i o = (leng
 abbrev μ-loop : tie.MeasureT-loop
 μ-loop table configuration at end starts ends out₀ i₀ o₀ out i o = end - i
 
--- src/right.rt:82:5
 loop-holds : tie.Need-loop-holds Inv-loop μ-loop
 loop-holds c = (refl, writing-first (c .args .table .now) (c .args .configuration .now) (c .args .starts .now) (c .args .ends .now) (c .args .at) (c .args .end) (c .args .out .now))
 
--- src/right.rt:83:13
-item-requires : tie.Need-item-requires Inv-loop μ-loop
-item-requires c κs =
-    let l = c .before in
-    let s = l .before in (writing-rest (s .args .table .now) (s .args .configuration .now) (s .args .starts .now) (s .args .ends .now) (s .args .at) (s .args .end) (s .args .out .now) (l .loop .i) (l .loop .o) (l .loop .out) (l .loop .inv .1) (s .pre .rest), c .loop-test .taken)
-
--- src/right.rt:85:9
-put-requires : tie.Need-put-requires Inv-loop μ-loop
-put-requires c κs =
-    let x = c .before in
-    let l = x .before .before in
+write-item-requires : tie.Need-write-item-requires Inv-loop μ-loop
+write-item-requires c κs =
+    let l = c .before .before in
     let s = l .before in
-    let (w, k) = writing-room (s .args .table .now) (s .args .configuration .now) (s .args .starts .now) (s .args .ends .now) (s .args .at) (s .args .end) (s .args .out .now) (l .loop .i) (l .loop .o) (l .loop .out) (l .loop .inv .1) (x .item .result) (x .item .ensures) (s .pre) in (w, omega (arith, k, l .loop .inv .0))
+    let k = writing-fits (s .args .table .now) (s .args .configuration .now) (s .args .starts .now) (s .args .ends .now) (s .args .at) (s .args .end) (s .args .out .now) (l .loop .i) (l .loop .o) (l .loop .out) (l .loop .inv .1) (s .pre) (c .before .loop-test .taken) in
+    subst⁻¹ (λ (n : ℕ). FittingItem (s .args .table .now) (s .args .configuration .now) (s .args .starts .now) (s .args .ends .now) (l .loop .i) (s .args .end) (l .loop .o) n) (l .loop .inv .0) k
 
--- src/right.rt:82:5
 loop-less : tie.Need-loop-less Inv-loop μ-loop
 loop-less c =
     let x = c .before .before .before in
-    let l = x .before .before in
+    let l = x .before in
     let s = l .before in
-    omega (arith, x .before .loop-test .taken, writing-forward (s .args .table .now) (s .args .configuration .now) (s .args .starts .now) (s .args .ends .now) (s .args .at) (s .args .end) (s .args .out .now) (l .loop .i) (l .loop .o) (l .loop .out) (l .loop .inv .1) (x .item .result) (x .item .ensures) (s .pre .rest))
+    omega (arith, x .loop-test .taken, writing-forward (s .args .table .now) (s .args .configuration .now) (s .args .starts .now) (s .args .ends .now) (s .args .at) (s .args .end) (s .args .out .now) (l .loop .i) (l .loop .o) (l .loop .out) (l .loop .inv .1) _ (c .before .write-item .ensures .item) (s .pre .rest))
 
--- src/right.rt:82:5
 loop-again : tie.Need-loop-again Inv-loop μ-loop
 loop-again c =
-    let p = c .before in
-    let x = p .before .before in
-    let l = x .before .before in
+    let w = c .before .write-item in
+    let l = c .before .before .before .before in
     let s = l .before in
-    (p .put .kept .0 ∙ l .loop .inv .0, writing-on (s .args .table .now) (s .args .configuration .now) (s .args .starts .now) (s .args .ends .now) (s .args .at) (s .args .end) (s .args .out .now) (l .loop .i) (l .loop .o) (l .loop .out) (l .loop .inv .1) (x .item .result) (x .item .ensures) (p .put .result) (p .put .last .0) (p .put .ensures .leaves) (p .put .ensures .next))
+    (w .kept .1 .1 .1 .1 .1 .1 .0 ∙ l .loop .inv .0, writing-on (s .args .table .now) (s .args .configuration .now) (s .args .starts .now) (s .args .ends .now) (s .args .at) (s .args .end) (s .args .out .now) (l .loop .i) (l .loop .o) (l .loop .out) (l .loop .inv .1) _ (w .ensures .item) (w .result .place) (w .last .1 .1 .1 .1 .1 .1 .0) (w .ensures .puts .leaves) (w .ensures .puts .next))
 
--- src/right.rt:68:1
 same-length : tie.Need-same-length Inv-loop μ-loop
 same-length c = c .before .loop .inv .0
 
--- src/right.rt:68:1
 returns : tie.Need-returns Inv-loop μ-loop
 returns c =
     let l = c .before in
@@ -65,8 +53,7 @@ write-right-spec =
     Inv-loop
     μ-loop
     loop-holds
-    item-requires
-    put-requires
+    write-item-requires
     loop-less
     loop-again
     same-length
