@@ -232,9 +232,6 @@ module _ (ws : List ℤ) (at : ℕ) where
   no-one-node = record { call = λ e. absurd (false≢true e); size = λ e. absurd (false≢true e) }
 
 module _ (ws cs : List ℤ) (starts ends : List ℕ) (at end : ℕ) (below : at < end) where
-  pub term-stands : SomeRest ws cs starts ends at end → TermAt ws at
-  term-stands s = first (s .terms) below (s .is) λ l ls ss r t. term-here r
-
   pub call-sized : (b : Bool) → OneNodeIs ws at b → b ≡ true → (e : ℕ) → TermEnds ws at e → SizedIs ws cs starts ends at end (record { words = 2; next = e })
   call-sized b o t e x = record { is = λ ρ f us r. o .size t cs starts ends end ρ f us below r e x }
 

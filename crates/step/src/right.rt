@@ -79,7 +79,7 @@ pub fn item_size(
     ensures { λ r. ⌜ SizedIs (now (table .entry)) (now (configuration .entry)) (now (starts .entry)) (now (ends .entry)) at end r ⌝ }
 {
     if gives_one_node(table, at) {
-        let next = term::expression_end(table, at);
+        let next = value::short::call_end(table, at);
         return Sized {
             words: 2,
             next: next,
