@@ -149,7 +149,7 @@ pub struct Written {
     pub next: usize,
 }
 
-// Writes one item's words from a place of out on. A short call's two words are put as they are computed.
+// Writes one item's words from a place of out on: a short call's two as they are computed, a node's two, else those of the item's value.
 pub fn write_item<'a>(
     table: &'a [i64],
     configuration: &'a [i64],
@@ -177,6 +177,15 @@ pub fn write_item<'a>(
             return Written {
                 place: e,
                 next: at + 6,
+            };
+        }
+    } else {
+        if tag != term::VARIABLE {
+            let datum = term::word(table, at + 1);
+            let e = value::put(out, o, table, configuration, Value::Computed(tag, datum));
+            return Written {
+                place: e,
+                next: at + 2,
             };
         }
     }
