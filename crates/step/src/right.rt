@@ -121,28 +121,6 @@ pub fn measure_right(
     Fit::Words(room - left)
 }
 
-// Writes the items' words from the start of out.
-pub fn write_right<'a>(
-    table: &'a [i64],
-    configuration: &'a [i64],
-    at: usize,
-    end: usize,
-    starts: &[usize; 16],
-    ends: &[usize; 16],
-    out: &mut [i64],
-)
-    requires { ⌜ FittingRest (now table) (now configuration) (now starts) (now ends) at end (length (now out)) ⌝ }
-    ensures { λ _. ⌜ WriteRightIs (now (table .entry)) (now (configuration .entry)) (now (starts .entry)) (now (ends .entry)) at end (now (out .entry)) (now (out .exit)) ⌝ }
-{
-    let mut i = at;
-    let mut o: usize = 0;
-    while i < end {
-        let x = write_item(table, configuration, i, end, starts, ends, out, o);
-        o = x.place;
-        i = x.next;
-    }
-}
-
 // The place behind an item's words, and the place behind the item.
 pub struct Written {
     pub place: usize,
@@ -195,5 +173,27 @@ pub fn write_item<'a>(
     Written {
         place: e,
         next: x.next,
+    }
+}
+
+// Writes the items' words from the start of out.
+pub fn write_right<'a>(
+    table: &'a [i64],
+    configuration: &'a [i64],
+    at: usize,
+    end: usize,
+    starts: &[usize; 16],
+    ends: &[usize; 16],
+    out: &mut [i64],
+)
+    requires { ⌜ FittingRest (now table) (now configuration) (now starts) (now ends) at end (length (now out)) ⌝ }
+    ensures { λ _. ⌜ WriteRightIs (now (table .entry)) (now (configuration .entry)) (now (starts .entry)) (now (ends .entry)) at end (now (out .entry)) (now (out .exit)) ⌝ }
+{
+    let mut i = at;
+    let mut o: usize = 0;
+    while i < end {
+        let x = write_item(table, configuration, i, end, starts, ends, out, o);
+        o = x.place;
+        i = x.next;
     }
 }
