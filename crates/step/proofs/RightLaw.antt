@@ -188,6 +188,14 @@ module _ {ws cs : List ℤ} {starts ends : List ℕ} {at end : ℕ} {ρ : Valuat
       let n : at + 2 - at ≡ 2 = omega arith in
       record { within = (omega arith, h .within); leads = subst (λ (vs : List ℤ). LeadsOn ws cs starts ends at end ρ us vs (at + 2)) (sym (ap (λ (m : ℕ). take m (drop at ws)) n ∙ h .words)) (node-leads f g) }
 
+  -- the same two words, read
+  node-read : (tagWord l (termCount ls) ≡ pos variableTag → ⊥) → (tagWord l (termCount ls) ≡ pos callTag → ⊥) → (t d : ℤ) → t ≡ word ws at → d ≡ word ws (at + 1) → ItemOf ws cs starts ends at end ρ us (record { value = W.Computed t d; next = at + 2 })
+  unfolding valueWords Within
+  node-read f g t d p q =
+      let x : word ws at ≡ tagWord l (termCount ls) = stands-head (r .stands) (pos 0) in
+      let y : word ws (at + 1) ≡ datumWord l = stands-word (r .stands) 1 (pos 0) (omega arith) in
+      record { within = tt; leads = subst₂ (λ (a b : ℤ). LeadsOn ws cs starts ends at end ρ us (a ∷ b ∷ []) (at + 2)) (sym (p ∙ x)) (sym (q ∙ y)) (node-leads f g) }
+
 -- a node's two words
 pub node-within : {ws cs : List ℤ} {starts ends : List ℕ} {at end : ℕ} → at < end → SomeRest ws cs starts ends at end → at + 2 ≤ length ws
 node-within below s = first (s .terms) below (s .is) λ l ls ss r t. omega (arith, r .stands .within)
@@ -232,11 +240,11 @@ module _ (ws : List ℤ) (at : ℕ) where
   no-one-node = record { call = λ e. absurd (false≢true e); size = λ e. absurd (false≢true e) }
 
 module _ (ws cs : List ℤ) (starts ends : List ℕ) (at end : ℕ) (below : at < end) where
-  pub term-stands : SomeRest ws cs starts ends at end → TermAt ws at
-  term-stands s = first (s .terms) below (s .is) λ l ls ss r t. term-here r
-
   pub call-sized : (b : Bool) → OneNodeIs ws at b → b ≡ true → (e : ℕ) → TermEnds ws at e → SizedIs ws cs starts ends at end (record { words = 2; next = e })
   call-sized b o t e x = record { is = λ ρ f us r. o .size t cs starts ends end ρ f us below r e x }
+
+  pub node-words : (word ws at ≡ pos variableTag → ⊥) → (word ws at ≡ pos callTag → ⊥) → (t d : ℤ) → t ≡ word ws at → d ≡ word ws (at + 1) → ItemIs ws cs starts ends at end (record { value = W.Computed t d; next = at + 2 })
+  node-words f g t d p q = record { is = λ ρ h us r. first h below r (λ l ls ss k y. node-read k (λ e. f (y ∙ e)) (λ e. g (y ∙ e)) t d p q) }
 
   module _ (s : Evaluated) (x : ItemIs ws cs starts ends at end s) where
     pub item-ordered : SomeRest ws cs starts ends at end → Ordered (s .value)

@@ -79,7 +79,7 @@ pub fn item_size(
     ensures { λ r. ⌜ SizedIs (now (table .entry)) (now (configuration .entry)) (now (starts .entry)) (now (ends .entry)) at end r ⌝ }
 {
     if gives_one_node(table, at) {
-        let next = term::expression_end(table, at);
+        let next = value::short::call_end(table, at);
         return Sized {
             words: 2,
             next: next,
@@ -121,35 +121,13 @@ pub fn measure_right(
     Fit::Words(room - left)
 }
 
-// Writes the items' words from the start of out.
-pub fn write_right<'a>(
-    table: &'a [i64],
-    configuration: &'a [i64],
-    at: usize,
-    end: usize,
-    starts: &[usize; 16],
-    ends: &[usize; 16],
-    out: &mut [i64],
-)
-    requires { ⌜ FittingRest (now table) (now configuration) (now starts) (now ends) at end (length (now out)) ⌝ }
-    ensures { λ _. ⌜ WriteRightIs (now (table .entry)) (now (configuration .entry)) (now (starts .entry)) (now (ends .entry)) at end (now (out .entry)) (now (out .exit)) ⌝ }
-{
-    let mut i = at;
-    let mut o: usize = 0;
-    while i < end {
-        let x = write_item(table, configuration, i, end, starts, ends, out, o);
-        o = x.place;
-        i = x.next;
-    }
-}
-
 // The place behind an item's words, and the place behind the item.
 pub struct Written {
     pub place: usize,
     pub next: usize,
 }
 
-// Writes one item's words from a place of out on. A short call's two words are put as they are computed.
+// Writes one item's words from a place of out on: a short call's two as they are computed, a node's two, else those of the item's value.
 pub fn write_item<'a>(
     table: &'a [i64],
     configuration: &'a [i64],
@@ -179,6 +157,15 @@ pub fn write_item<'a>(
                 next: at + 6,
             };
         }
+    } else {
+        if tag != term::VARIABLE {
+            let datum = term::word(table, at + 1);
+            let e = value::put(out, o, table, configuration, Value::Computed(tag, datum));
+            return Written {
+                place: e,
+                next: at + 2,
+            };
+        }
     }
     let x = item(table, configuration, at, end, starts, ends);
     let v = x.value;
@@ -186,5 +173,27 @@ pub fn write_item<'a>(
     Written {
         place: e,
         next: x.next,
+    }
+}
+
+// Writes the items' words from the start of out.
+pub fn write_right<'a>(
+    table: &'a [i64],
+    configuration: &'a [i64],
+    at: usize,
+    end: usize,
+    starts: &[usize; 16],
+    ends: &[usize; 16],
+    out: &mut [i64],
+)
+    requires { ⌜ FittingRest (now table) (now configuration) (now starts) (now ends) at end (length (now out)) ⌝ }
+    ensures { λ _. ⌜ WriteRightIs (now (table .entry)) (now (configuration .entry)) (now (starts .entry)) (now (ends .entry)) at end (now (out .entry)) (now (out .exit)) ⌝ }
+{
+    let mut i = at;
+    let mut o: usize = 0;
+    while i < end {
+        let x = write_item(table, configuration, i, end, starts, ends, out, o);
+        o = x.place;
+        i = x.next;
     }
 }

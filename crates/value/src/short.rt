@@ -6,6 +6,7 @@ use term::CALL;
 use term::VARIABLE;
 ghost use mathlib.Core.Path.{_≡_};
 ghost use mathlib.Core.Bool.{true};
+ghost use Rattle.term.specs.TermAt.{TermEnds};
 ghost use Rattle.value.specs.Short.{CallThere, Short, ShortIn, ShortContract, ArgumentIn, ArgumentContract};
 
 // Whether the call that stands at a place is such a call.
@@ -46,4 +47,15 @@ fn short_root(table: &[i64], configuration: &[i64], at: usize, starts: &[usize; 
         return root_at(configuration, start);
     }
     root_at(table, at)
+}
+
+// The place behind the call that stands at a place: a short call has six words.
+pub fn call_end(table: &[i64], at: usize) -> usize
+    requires { ⌜ CallThere (now table) at ⌝ }
+    ensures { λ r. ⌜ TermEnds (now (table .entry)) at r ⌝ }
+{
+    if is_short_call(table, at) {
+        return at + 6;
+    }
+    term::expression_end(table, at)
 }

@@ -1,23 +1,24 @@
 -- `item_size` meets its contract: a call that gives one node ends where its term ends; any other item has its value's size.
 use native.Mathlib.Omega.{arith}
 use borrow.Author.Needs.{needs}
-use Rattle.step.proofs.RightLaw.{node-within, term-stands, call-sized, item-ordered, item-sized}
+use Rattle.step.proofs.RightLaw.{node-within, call-needs, call-sized, item-ordered, item-sized}
 use Rattle.step.proofs.right.item_size.Statement.{statement}
 use Rattle.step.proofs.right.item_size.Tie as tie
 
 gives-one-node-requires : tie.Need-gives-one-node-requires
 gives-one-node-requires c κs = omega (arith, node-within (c .pre .1) (c .pre .0))
 
-expression-end-requires : tie.Need-expression-end-requires
-expression-end-requires c κs =
-    let s = c .before .before in
-    term-stands (s .args .table .now) (s .args .configuration .now) (s .args .starts .now) (s .args .ends .now) (s .args .at) (s .args .end) (s .pre .1) (s .pre .0)
+call-end-requires : tie.Need-call-end-requires
+call-end-requires c κs =
+    let o = c .before in
+    let s = o .before in
+    record { config = _; starts = _; ends = _; call = call-needs (s .args .table .now) (s .args .configuration .now) (s .args .starts .now) (s .args .ends .now) (s .args .at) (s .args .end) (s .pre .1) (o .gives-one-node .ensures .call (c .if1 .taken)) (s .pre .0) }
 
 returns : tie.Need-returns
 returns c =
     let o = c .before .before in
     let s = o .before in
-    call-sized (s .args .table .now) (s .args .configuration .now) (s .args .starts .now) (s .args .ends .now) (s .args .at) (s .args .end) (s .pre .1) (o .gives-one-node .result) (o .gives-one-node .ensures) (c .before .if1 .taken) (c .expression-end .result) (c .expression-end .ensures)
+    call-sized (s .args .table .now) (s .args .configuration .now) (s .args .starts .now) (s .args .ends .now) (s .args .at) (s .args .end) (s .pre .1) (o .gives-one-node .result) (o .gives-one-node .ensures) (c .before .if1 .taken) (c .call-end .result) (c .call-end .ensures)
 
 item-requires : tie.Need-item-requires
 item-requires c κs = search needs
@@ -36,4 +37,4 @@ returns-2 c =
 pub item-size-spec : {M : Type 1} → statement M
 item-size-spec =
     tie.close
-    (tie.spec gives-one-node-requires expression-end-requires returns item-requires size-requires returns-2)
+    (tie.spec gives-one-node-requires call-end-requires returns item-requires size-requires returns-2)

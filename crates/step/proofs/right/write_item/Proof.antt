@@ -1,5 +1,5 @@
--- `write_item` meets its contract: a short call's two words are its value's; any other item's words are put as `item` finds them.
-use mathlib.Core.Path.{_≡_, sym, _∙_, subst⁻¹}
+-- `write_item` meets its contract: a short call's two words are its value's, a node's two are its own; any other item's words are put as `item` finds them.
+use mathlib.Core.Path.{_≡_, sym, _∙_, ap, subst⁻¹}
 use Prim.Native.Nat.{_+_}
 use native.Mathlib.Omega.{arith}
 use borrow.Author.Needs.{needs}
@@ -13,7 +13,7 @@ use Rattle.value.specs.declared.Value.{Value}
 use Rattle.value.specs.declared.Value.the-variants.{Computed}
 use Rattle.step.specs.Right.{ItemIs}
 use Rattle.step.proofs.MatchingLaw.{word}
-use Rattle.step.proofs.RightLaw.{node-within, call-needs, computed-given, evaluated-is, item-ends, item-room}
+use Rattle.step.proofs.RightLaw.{node-within, call-needs, computed-given, evaluated-is, node-words, item-ends, item-room}
 use Rattle.step.proofs.right.write_item.Statement.{statement}
 use Rattle.step.proofs.right.write_item.Tie as tie
 
@@ -57,8 +57,8 @@ put-requires c κs =
     let s = d .before .before .before .before .before in
     item-room (s .args .table .now) (s .args .configuration .now) (s .args .starts .now) (s .args .ends .now) (s .args .at) (s .args .end) (s .pre .before) _ (short-item d) _ _ (s .pre)
 
-add-t20 : tie.Need-add-t20
-add-t20 c =
+add-t22 : tie.Need-add-t22
+add-t22 c =
     let d = c .before .before .before .before in
     let s = d .before .before .before .before .before in
     let h = item-ends (s .args .table .now) (s .args .configuration .now) (s .args .starts .now) (s .args .ends .now) (s .args .at) (s .args .end) (s .pre .before) _ (short-item d) _ _ (s .pre) in
@@ -70,20 +70,53 @@ same-length c = search needs
 returns : tie.Need-returns
 returns c = record { value = _; item = short-item (c .before .before .before .before); puts = c .before .put .ensures }
 
-item-requires : tie.Need-item-requires
-item-requires c κs = let s = c .before .before in (s .pre .rest, s .pre .before)
+-- a node that is neither a call nor a variable: its two words
+node-fits : (c : tie.After-word2) → SFits w64 (c .before .before .before .word .result) × SFits w64 (c .word2 .result)
+node-fits c = (search needs, search needs)
+
+node-item : (c : tie.After-word2) → let w = c .before .before .before in let s = w .before in ItemIs (s .args .table .now) (s .args .configuration .now) (s .args .starts .now) (s .args .ends .now) (s .args .at) (s .args .end) (record { value = Computed (toZ w64 (ofZ w64 (w .word .result))) (toZ w64 (ofZ w64 (c .word2 .result))); next = s .args .at + 2 })
+node-item c =
+    let e = c .before .before in
+    let w = e .before in
+    let s = w .before in
+    let (f, g) = node-fits c in
+    node-words (s .args .table .now) (s .args .configuration .now) (s .args .starts .now) (s .args .ends .now) (s .args .at) (s .args .end) (s .pre .before) (λ p. c .before .if3 .taken (ap (ofZ w64) (w .word .ensures ∙ p))) (λ p. e .if1 .left (ap (ofZ w64) (w .word .ensures ∙ p))) _ _ (toZ-ofZ f ∙ w .word .ensures) (toZ-ofZ g ∙ c .word2 .ensures)
+
+add-word : tie.Need-add-word
+add-word c = let s = c .before .before .before in omega (arith, node-within (s .pre .before) (s .pre .rest))
+
+word-requires-2 : tie.Need-word-requires-2
+word-requires-2 c κs = let s = c .before .before .before in omega (arith, node-within (s .pre .before) (s .pre .rest))
 
 put-requires-2 : tie.Need-put-requires-2
 put-requires-2 c κs =
-    let x = c .before in
-    let s = x .before .before .before in
-    item-room (s .args .table .now) (s .args .configuration .now) (s .args .starts .now) (s .args .ends .now) (s .args .at) (s .args .end) (s .pre .before) (x .item .result) (x .item .ensures) _ _ (s .pre)
+    let d = c .before in
+    let s = d .before .before .before .before in
+    item-room (s .args .table .now) (s .args .configuration .now) (s .args .starts .now) (s .args .ends .now) (s .args .at) (s .args .end) (s .pre .before) _ (node-item d) _ _ (s .pre)
+
+add-t24 : tie.Need-add-t24
+add-t24 c = let s = c .before .before .before .before .before .before .before in omega (arith, node-within (s .pre .before) (s .pre .rest))
 
 same-length-2 : tie.Need-same-length-2
 same-length-2 c = search needs
 
 returns-2 : tie.Need-returns-2
-returns-2 c = record { value = _; item = c .before .before .before .item .ensures; puts = c .before .put2 .ensures }
+returns-2 c = record { value = _; item = node-item (c .before .before .before); puts = c .before .put2 .ensures }
+
+item-requires : tie.Need-item-requires
+item-requires c κs = let s = c .before .before in (s .pre .rest, s .pre .before)
+
+put-requires-3 : tie.Need-put-requires-3
+put-requires-3 c κs =
+    let x = c .before in
+    let s = x .before .before .before in
+    item-room (s .args .table .now) (s .args .configuration .now) (s .args .starts .now) (s .args .ends .now) (s .args .at) (s .args .end) (s .pre .before) (x .item .result) (x .item .ensures) _ _ (s .pre)
+
+same-length-3 : tie.Need-same-length-3
+same-length-3 c = search needs
+
+returns-3 : tie.Need-returns-3
+returns-3 c = record { value = _; item = c .before .before .before .item .ensures; puts = c .before .put3 .ensures }
 
 pub write-item-spec : {M : Type 1} → statement M
 write-item-spec =
@@ -93,10 +126,16 @@ write-item-spec =
     is-short-call-requires
     short-call-requires
     put-requires
-    add-t20
+    add-t22
     same-length
     returns
-    item-requires
+    add-word
+    word-requires-2
     put-requires-2
+    add-t24
     same-length-2
-    returns-2)
+    returns-2
+    item-requires
+    put-requires-3
+    same-length-3
+    returns-3)
