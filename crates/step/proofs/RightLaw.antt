@@ -1,5 +1,5 @@
 -- One item of a right, by the node's tag: a variable's part, a call's value, or a plain node's two words; its size; and the rest behind it.
-use mathlib.Core.Path.{_≡_, refl, sym, _∙_, ap, ap₂, subst, subst⁻¹, subst₂}
+use mathlib.Core.Path.{_≡_, refl, sym, _∙_, ap, subst, subst⁻¹, subst₂}
 use mathlib.Core.Bool.{Bool, true, false, _&&_, cond, false≢true}
 use mathlib.Core.Option.{Option, some}
 use mathlib.Core.List.{List, [], _∷_, _++_}
@@ -30,8 +30,6 @@ use Rattle.term.specs.TermAt.{TermAt, TermEnds}
 use Rattle.value.specs.declared.Evaluated.{Evaluated}
 use Rattle.value.specs.declared.Value.the-variants as W
 use Rattle.value.specs.Value.{valueWords, Within, sizeOf, Ordered}
-use Rattle.value.specs.declared.builtin.Root.{Root}
-use Rattle.value.specs.Root.{given}
 use Rattle.value.specs.Evaluate.{HasValue, ExpressionIn, EvaluateContract, CallIn}
 use Rattle.value.proofs.WordsLaw.{size-is, within-ordered}
 use Rattle.step.specs.Right.{Rest, SomeRest, LeadsOn, ItemOf, ItemIs, SizedOf, SizedIs, SomePiece, PieceIs, OneNodeIs, FittingItem}
@@ -225,11 +223,6 @@ module _ (ws cs : List ℤ) (starts ends : List ℕ) (at end : ℕ) (below : at 
 
   pub evaluated-is : (s : Evaluated) → EvaluateContract ws cs starts ends at s → ItemIs ws cs starts ends at end s
   evaluated-is s c = record { is = λ ρ f us r. first f below r (λ l ls ss k t. evaluated-item k (sym t ∙ four) s c) }
-
--- what a function gives, as two words
-pub computed-given : (r : Root) (t d : ℤ) → t ≡ r .tag → d ≡ r .datum → W.Computed t d ≡ given r
-unfolding given
-computed-given r t d p q = ap₂ W.Computed p q
 
 -- ---- `item_size`: a call that gives one node, or else the item's own size
 module _ (ws : List ℤ) (at : ℕ) where

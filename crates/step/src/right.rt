@@ -145,13 +145,8 @@ pub fn write_item<'a>(
     if tag == term::CALL {
         if value::short::is_short_call(table, at) {
             let r = value::short::short_call(table, configuration, at, starts);
-            let e = value::put(
-                out,
-                o,
-                table,
-                configuration,
-                Value::Computed(r.tag, r.datum),
-            );
+            let v = value::leaf::given(r);
+            let e = value::put(out, o, table, configuration, v);
             return Written {
                 place: e,
                 next: at + 6,

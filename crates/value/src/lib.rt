@@ -12,7 +12,7 @@ ghost use Rattle.value.specs.Copy.{PutContract};
 
 pub mod builtin; // the fifteen functions
 mod expression; // a call's value and its argument list
-mod leaf; // values that need no recursion
+pub mod leaf; // values that need no recursion
 pub mod short; // calls whose value needs no recursion
 mod same; // whether two values are the same
 

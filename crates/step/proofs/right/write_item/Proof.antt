@@ -13,7 +13,7 @@ use Rattle.value.specs.declared.Value.{Value}
 use Rattle.value.specs.declared.Value.the-variants.{Computed}
 use Rattle.step.specs.Right.{ItemIs}
 use Rattle.step.proofs.MatchingLaw.{word}
-use Rattle.step.proofs.RightLaw.{node-within, call-needs, computed-given, evaluated-is, node-words, item-ends, item-room}
+use Rattle.step.proofs.RightLaw.{node-within, call-needs, evaluated-is, node-words, item-ends, item-room}
 use Rattle.step.proofs.right.write_item.Statement.{statement}
 use Rattle.step.proofs.right.write_item.Tie as tie
 
@@ -38,29 +38,27 @@ short-call-requires c κs =
     let s = t .before .before in
     record { ends = _; call = call-needs (s .args .table .now) (s .args .configuration .now) (s .args .starts .now) (s .args .ends .now) (s .args .at) (s .args .end) (s .pre .before) (four t) (s .pre .rest); short = c .before .is-short-call .ensures (c .if2 .taken) }
 
-fits : (c : tie.After-short-call) → SFits w64 (c .short-call .result .tag) × SFits w64 (c .short-call .result .datum)
-fits c = (search needs, search needs)
-
--- a short call is the item that its contract says
-short-item : (c : tie.After-short-call) → let s = c .before .before .before .before .before in ItemIs (s .args .table .now) (s .args .configuration .now) (s .args .starts .now) (s .args .ends .now) (s .args .at) (s .args .end) (record { value = Computed (toZ w64 (ofZ w64 (c .short-call .result .tag))) (toZ w64 (ofZ w64 (c .short-call .result .datum))); next = s .args .at + 6 })
+-- what a short call gives is the item that its contract says
+short-item : (c : tie.After-given) → let s = c .before .before .before .before .before .before in ItemIs (s .args .table .now) (s .args .configuration .now) (s .args .starts .now) (s .args .ends .now) (s .args .at) (s .args .end) (record { value = c .given .result; next = s .args .at + 6 })
 short-item c =
-    let t = c .before .before .before in
+    let t = c .before .before .before .before in
     let s = t .before .before in
-    let r = c .short-call .result in
-    let (f, g) = fits c in
-    subst⁻¹ (λ (v : Value). ItemIs (s .args .table .now) (s .args .configuration .now) (s .args .starts .now) (s .args .ends .now) (s .args .at) (s .args .end) (record { value = v; next = s .args .at + 6 })) (computed-given r _ _ (toZ-ofZ f) (toZ-ofZ g))
-    (evaluated-is (s .args .table .now) (s .args .configuration .now) (s .args .starts .now) (s .args .ends .now) (s .args .at) (s .args .end) (s .pre .before) (four t) _ (c .short-call .ensures .over (s .args .ends .now)))
+    subst⁻¹ (λ (v : Value). ItemIs (s .args .table .now) (s .args .configuration .now) (s .args .starts .now) (s .args .ends .now) (s .args .at) (s .args .end) (record { value = v; next = s .args .at + 6 })) (c .given .ensures)
+    (evaluated-is (s .args .table .now) (s .args .configuration .now) (s .args .starts .now) (s .args .ends .now) (s .args .at) (s .args .end) (s .pre .before) (four t) _ (c .before .short-call .ensures .over (s .args .ends .now)))
+
+given-requires : tie.Need-given-requires
+given-requires c κs = tt
 
 put-requires : tie.Need-put-requires
 put-requires c κs =
-    let d = c .before .before in
-    let s = d .before .before .before .before .before in
+    let d = c .before in
+    let s = d .before .before .before .before .before .before in
     item-room (s .args .table .now) (s .args .configuration .now) (s .args .starts .now) (s .args .ends .now) (s .args .at) (s .args .end) (s .pre .before) _ (short-item d) _ _ (s .pre)
 
 add-t22 : tie.Need-add-t22
 add-t22 c =
-    let d = c .before .before .before .before in
-    let s = d .before .before .before .before .before in
+    let d = c .before .before .before in
+    let s = d .before .before .before .before .before .before in
     let h = item-ends (s .args .table .now) (s .args .configuration .now) (s .args .starts .now) (s .args .ends .now) (s .args .at) (s .args .end) (s .pre .before) _ (short-item d) _ _ (s .pre) in
     omega arith
 
@@ -68,7 +66,7 @@ same-length : tie.Need-same-length
 same-length c = search needs
 
 returns : tie.Need-returns
-returns c = record { value = _; item = short-item (c .before .before .before .before); puts = c .before .put .ensures }
+returns c = record { value = _; item = short-item (c .before .before .before); puts = c .before .put .ensures }
 
 -- a node that is neither a call nor a variable: its two words
 node-fits : (c : tie.After-word2) → SFits w64 (c .before .before .before .word .result) × SFits w64 (c .word2 .result)
@@ -125,6 +123,7 @@ write-item-spec =
     word-requires
     is-short-call-requires
     short-call-requires
+    given-requires
     put-requires
     add-t22
     same-length
