@@ -6,6 +6,7 @@ use native.Mathlib.Omega.{arith}
 use lib.Dec.{ltb, lit<}
 use lib.IntN.{ℤ, pos, natAbs}
 use lib.ListN.{length, getD}
+use Rattle.minuska.specs.Function.{functions}
 use lib.Signed.{mag}
 use mir.Syntax.{w64}
 use mir.Val.{SFits, toZ, ofZ}
@@ -173,7 +174,7 @@ the-call t s = a-call t s _ _ _ (s .pre .1 .expression .has)
 room : (t : ℕ) (s : C-start t) → s .args .at + 2 ≤ length (now (s .args .table))
 room t s = head-words _ _ (expression-of t s .label) (expression-of t s .children) nil (s .pre .1 .expression .has .placed .stands) .room
 
-code-is : (t : ℕ) (c : C-read t) (n : ℕ) → n < 15 → getD (now (c .before .args .table)) (c .before .args .at + 1) (pos 0) ≡ pos n → natAbs (toZ w64 (ofZ w64 (c .word .result))) ≡ n
+code-is : (t : ℕ) (c : C-read t) (n : ℕ) → n < length functions → getD (now (c .before .args .table)) (c .before .args .at + 1) (pos 0) ≡ pos n → natAbs (toZ w64 (ofZ w64 (c .word .result))) ≡ n
 code-is t c n h d = abs-back (c .word .result) n (c .word .ensures ∙ d) (omega arith)
 
 counted : (t : ℕ) (c : C-counted t) (ρ : Valuation) (e x : Term) (k : CallAt t (c .before .before) ρ e x) → termCount (e .children) ≡ c .arity .result

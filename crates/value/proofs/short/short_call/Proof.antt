@@ -11,7 +11,7 @@ use denote.Ref.{now}
 use borrow.Author.Needs.{needs}
 use Rattle.minuska.specs.Term.{nil, Term, single}
 use Rattle.minuska.specs.Word.{encode}
-use Rattle.minuska.specs.Function.{functionAt}
+use Rattle.minuska.specs.Function.{functions, functionAt}
 use Rattle.minuska.specs.Satisfaction.{Valuation}
 use Rattle.value.specs.Builtin.{rootOf, applied}
 use Rattle.value.specs.Root.{given}
@@ -61,7 +61,7 @@ room s =
     let r = head-words _ _ (h .b .label) (h .b .children) nil (second-at s _ _ _ _ k .placed .stands) .room in
     omega arith
 
-code-is : (c : tie.After-word) (n : ℕ) → n < 15 → getD (now (c .before .args .table)) (c .before .args .at + 1) (pos 0) ≡ pos n → natAbs (toZ w64 (ofZ w64 (c .word .result))) ≡ n
+code-is : (c : tie.After-word) (n : ℕ) → n < length functions → getD (now (c .before .args .table)) (c .before .args .at + 1) (pos 0) ≡ pos n → natAbs (toZ w64 (ofZ w64 (c .word .result))) ≡ n
 code-is c n h d = abs-back (c .word .result) n (c .word .ensures ∙ d) (omega arith)
 
 -- the words handed over are words
