@@ -142,17 +142,23 @@ pub record OrderedIs (ws : List ℤ) (i r : ℕ) : Type 0 where
   pub is : (table : Table) → IsTable ws table → (n : ℕ) → getElem? (order table) i ≡ some n → r ≡ n
   pub other : (table : Table) → IsTable ws table → getElem? (order table) i ≡ none → getElem? table r ≡ none
 
--- A number of positions of that order. From a position on, up to another, the left of every rule there is seen not to match at its root.
+-- A number of positions of that order. From a position on, up to another, the left of every rule there is seen not to match at its root, by its key.
 pub record Positions (ws : List ℤ) (to : ℕ) : Type 0 where
   pub there : (table : Table) → IsTable ws table → to ≤ length (order table)
 
+abbrev pub KeysDiffer : Term → Term → Type 0
+KeysDiffer l g = (rootKey l ≡ 0 → ⊥) × (rootKey l ≡ rootKey g → ⊥)
+
 pub record RootsPassed (ws cs : List ℤ) (from to : ℕ) : Type 0 where
+  pub keys : (table : Table) (rule : Rule) (g : Term) (i n : ℕ) → IsTable ws table → IsConfiguration cs g → from ≤ i → i < to → getElem? (order table) i ≡ some n → getElem? table n ≡ some rule → KeysDiffer (rule .left) g
   pub differ : (table : Table) (rule : Rule) (g : Term) (i n : ℕ) → IsTable ws table → IsConfiguration cs g → from ≤ i → i < to → getElem? (order table) i ≡ some n → getElem? table n ≡ some rule → RootMeets (rule .left) g → ⊥
 
+-- The first position from one on, up to another, whose rule is not passed over.
 pub record SeekIs (ws cs : List ℤ) (from to r : ℕ) : Type 0 where
   pub low : from ≤ r
   pub high : r ≤ to
   pub passed : RootsPassed ws cs from r
+  pub stops : (table : Table) (rule : Rule) (g : Term) (n : ℕ) → r < to → IsTable ws table → IsConfiguration cs g → getElem? (order table) r ≡ some n → getElem? table n ≡ some rule → KeysDiffer (rule .left) g → ⊥
 
 -- What the configuration's check establishes.
 pub record Accepted (ws : List ℤ) : Type 0 where

@@ -1,5 +1,6 @@
 -- `seek` meets its contract. The invariant: every rule from the first position up to this one was passed over.
 use mathlib.Core.Path.{_≡_, _∙_, ap, ap₂}
+use mathlib.Core.Logic.{inl, inr}
 use Prim.Native.Nat.{_-_, _≤_, _<_}
 use native.Mathlib.Omega.{arith}
 use lib.IntN.{pos}
@@ -9,7 +10,7 @@ use mir.Syntax.{w64}
 use borrow.Author.Needs.{needs}
 use Rattle.minuska.specs.Bridge.Place.{keyOf, Accepted, RootsPassed}
 use Rattle.table.proofs.NumberLaw.{via₂}
-use Rattle.table.proofs.KeyLaw.{root-there, position-small, none-passed, passes}
+use Rattle.table.proofs.KeyLaw.{root-there, position-small, none-passed, stops-here, passes}
 use Rattle.table.proofs.key.seek.Statement.{statement}
 use Rattle.table.proofs.key.seek.Tie as tie
 
@@ -52,10 +53,32 @@ number-requires c κs =
     (position-small (s .args .table .now) (s .args .configuration .now) (s .args .index .now) (s .pre .0) (s .args .to) (l .loop .i) (c .ordered .result) (s .pre .2) (c .before .loop-test .taken) (c .ordered .ensures), omega arith)
 
 returns : tie.Need-returns Inv-loop μ-loop
-returns c = let l = c .before .before .before .before .loop in record { low = l .inv .0; high = l .inv .1; passed = l .inv .2 }
+returns c =
+    let n = c .before in
+    let o = n .before in
+    let l = o .before .before in
+    let s = l .before .before .before .before in
+    record {
+      low = l .loop .inv .0;
+      high = l .loop .inv .1;
+      passed = l .loop .inv .2;
+      stops = λ t r g m h. stops-here (s .args .table .now) (s .args .configuration .now) (s .args .index .now) (s .pre .0) (s .args .from) (l .loop .i) (o .ordered .result) (n .number .result) (l .before .key .result)
+          (o .ordered .ensures) (n .number .ensures .is) (root-is (l .before)) (inl (c .if1 .taken)) t r g m;
+    }
 
 returns-2 : tie.Need-returns-2 Inv-loop μ-loop
-returns-2 c = let l = c .before .before .before .before .before .loop in record { low = l .inv .0; high = l .inv .1; passed = l .inv .2 }
+returns-2 c =
+    let n = c .before .before in
+    let o = n .before in
+    let l = o .before .before in
+    let s = l .before .before .before .before in
+    record {
+      low = l .loop .inv .0;
+      high = l .loop .inv .1;
+      passed = l .loop .inv .2;
+      stops = λ t r g m h. stops-here (s .args .table .now) (s .args .configuration .now) (s .args .index .now) (s .pre .0) (s .args .from) (l .loop .i) (o .ordered .result) (n .number .result) (l .before .key .result)
+          (o .ordered .ensures) (n .number .ensures .is) (root-is (l .before)) (inr (c .if2 .taken)) t r g m;
+    }
 
 add-i : tie.Need-add-i Inv-loop μ-loop
 add-i c = search needs
@@ -77,7 +100,10 @@ loop-again c =
     )
 
 returns-3 : tie.Need-returns-3 Inv-loop μ-loop
-returns-3 c = let l = c .before .loop in record { low = l .inv .0; high = l .inv .1; passed = l .inv .2 }
+returns-3 c =
+    let l = c .before .loop in
+    let e = c .loop-test .left in
+    record { low = l .inv .0; high = l .inv .1; passed = l .inv .2; stops = λ t r g m h. absurd (let z : ⊥ = omega arith in z) }
 
 pub seek-spec : {M : Type 1} → statement M
 seek-spec =
