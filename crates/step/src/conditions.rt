@@ -1,5 +1,6 @@
 // A rule's conditions, one after the other.
 use crate::how_far::HowFar;
+use term::Places;
 ghost use Rattle.step.specs.Conditions.{SomeConditions, HoldAllIs};
 
 // Whether all conditions that stand from a place up to another hold.
@@ -8,8 +9,8 @@ pub fn hold_all<'a>(
     configuration: &'a [i64],
     at: usize,
     end: usize,
-    starts: &[usize; 16],
-    ends: &[usize; 16],
+    starts: &Places,
+    ends: &Places,
 ) -> HowFar
     requires { ⌜ SomeConditions (now table) (now configuration) (now starts) (now ends) at end ⌝ }
     ensures { λ r. ⌜ HoldAllIs (now (table .entry)) (now (configuration .entry)) (now (starts .entry)) (now (ends .entry)) at end r ⌝ }

@@ -13,6 +13,8 @@ use minuska::StepAnswer;
 use minuska::limits::MAX_CONFIGURATION_WORDS;
 use minuska::limits::MAX_NODES;
 use right::Fit;
+use term::Places;
+use term::VARIABLES;
 ghost use mathlib.Core.Path.{_≡_};
 ghost use Prim.Native.Nat.{_≤_};
 ghost use Rattle.minuska.specs.Contract.{StepByRuleContract, StepContract};
@@ -72,8 +74,8 @@ fn apply_among<'a>(
     requires { ⌜ Names (now table) first × Positions (now table) to × (from ≤ to) ⌝ }
     ensures { λ r. ⌜ AmongIs (now (table .entry)) (now (configuration .entry)) first from to (now (out .entry)) (now (out .exit)) r ⌝ }
 {
-    let mut starts = [0usize; 16];
-    let mut ends = [0usize; 16];
+    let mut starts = [0usize; VARIABLES];
+    let mut ends = [0usize; VARIABLES];
     let mut rule = first;
     let mut i = from;
     loop {
@@ -96,8 +98,8 @@ fn write_within<'a>(
     index: &Index,
     configuration: &'a [i64],
     rule: usize,
-    starts: &[usize; 16],
-    ends: &[usize; 16],
+    starts: &Places,
+    ends: &Places,
     out: &mut [i64],
 ) -> StepAnswer
     requires { ⌜ Indexed (now table) (now index) × SomeMatched (now table) (now configuration) rule (now starts) (now ends) ⌝ }

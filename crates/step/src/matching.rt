@@ -1,5 +1,7 @@
 // Matching a left against a configuration, in one walk over both.
 use crate::how_far::HowFar;
+use term::Places;
+use term::VARIABLES;
 ghost use mathlib.Core.Path.{_≡_};
 ghost use Prim.Native.Nat.{_<_};
 ghost use lib.ListN.{length};
@@ -26,8 +28,8 @@ fn turn_at(
     end: usize,
     configuration: &[i64],
     j: usize,
-    starts: &[usize; 16],
-    ends: &[usize; 16],
+    starts: &Places,
+    ends: &Places,
 ) -> LeftTurn
     requires { ⌜ TurnFrom (now table) i end (now configuration) j (now starts) (now ends) ⌝ }
     ensures { λ r. ⌜ LeftTurned (now (table .entry)) i end (now (configuration .entry)) j (now (starts .entry)) (now (ends .entry)) r ⌝ }
@@ -79,14 +81,14 @@ pub fn match_left(
     at: usize,
     end: usize,
     configuration: &[i64],
-    starts: &mut [usize; 16],
-    ends: &mut [usize; 16],
+    starts: &mut Places,
+    ends: &mut Places,
 ) -> HowFar
     requires { ⌜ LeftIn (now table) at end ⌝ }
     requires { ⌜ Accepted (now configuration) ⌝ }
     ensures { λ r. ⌜ MatchContract (now (table .entry)) at end (now (configuration .entry)) (now (starts .entry)) (now (starts .exit)) (now (ends .exit)) r ⌝ }
 {
-    *ends = [0usize; 16];
+    *ends = [0usize; VARIABLES];
     let mut i = at;
     let mut j: usize = 0;
     while i < end {

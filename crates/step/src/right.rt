@@ -1,4 +1,5 @@
 // The words of a right under a match, item by item in preorder.
+use term::Places;
 use value::Evaluated;
 use value::Value;
 ghost use Prim.Native.Nat.{_<_};
@@ -12,7 +13,7 @@ pub enum Fit {
 }
 
 // One item that is no call, where it lies: a variable's part of the configuration, or a node's two words of the table.
-pub fn piece(table: &[i64], at: usize, starts: &[usize; 16], ends: &[usize; 16]) -> Evaluated
+pub fn piece(table: &[i64], at: usize, starts: &Places, ends: &Places) -> Evaluated
     requires { ⌜ SomePiece (now table) (now starts) (now ends) at ⌝ }
     ensures { λ r. ⌜ PieceIs (now (table .entry)) (now (starts .entry)) (now (ends .entry)) at r ⌝ }
 {
@@ -37,8 +38,8 @@ pub fn item(
     configuration: &[i64],
     at: usize,
     end: usize,
-    starts: &[usize; 16],
-    ends: &[usize; 16],
+    starts: &Places,
+    ends: &Places,
 ) -> Evaluated
     requires { ⌜ SomeRest (now table) (now configuration) (now starts) (now ends) at end × (at < end) ⌝ }
     ensures { λ r. ⌜ ItemIs (now (table .entry)) (now (configuration .entry)) (now (starts .entry)) (now (ends .entry)) at end r ⌝ }
@@ -72,8 +73,8 @@ pub fn item_size(
     configuration: &[i64],
     at: usize,
     end: usize,
-    starts: &[usize; 16],
-    ends: &[usize; 16],
+    starts: &Places,
+    ends: &Places,
 ) -> Sized
     requires { ⌜ SomeRest (now table) (now configuration) (now starts) (now ends) at end × (at < end) ⌝ }
     ensures { λ r. ⌜ SizedIs (now (table .entry)) (now (configuration .entry)) (now (starts .entry)) (now (ends .entry)) at end r ⌝ }
@@ -100,8 +101,8 @@ pub fn measure_right(
     configuration: &[i64],
     at: usize,
     end: usize,
-    starts: &[usize; 16],
-    ends: &[usize; 16],
+    starts: &Places,
+    ends: &Places,
     room: usize,
 ) -> Fit
     requires { ⌜ SomeRest (now table) (now configuration) (now starts) (now ends) at end ⌝ }
@@ -133,8 +134,8 @@ pub fn write_item<'a>(
     configuration: &'a [i64],
     at: usize,
     end: usize,
-    starts: &[usize; 16],
-    ends: &[usize; 16],
+    starts: &Places,
+    ends: &Places,
     out: &mut [i64],
     o: usize,
 ) -> Written
@@ -177,8 +178,8 @@ pub fn write_right<'a>(
     configuration: &'a [i64],
     at: usize,
     end: usize,
-    starts: &[usize; 16],
-    ends: &[usize; 16],
+    starts: &Places,
+    ends: &Places,
     out: &mut [i64],
 )
     requires { ⌜ FittingRest (now table) (now configuration) (now starts) (now ends) at end (length (now out)) ⌝ }

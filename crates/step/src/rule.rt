@@ -2,6 +2,7 @@
 use crate::how_far::HowFar;
 use crate::right::Fit;
 use minuska::Index;
+use term::Places;
 ghost use mathlib.Core.Path.{_≡_};
 ghost use lib.ListN.{length};
 ghost use Rattle.minuska.specs.Bridge.Place.{Indexed, Names, Accepted, Decides};
@@ -22,8 +23,8 @@ pub fn judge<'a>(
     index: &Index,
     rule: usize,
     configuration: &'a [i64],
-    starts: &mut [usize; 16],
-    ends: &mut [usize; 16],
+    starts: &mut Places,
+    ends: &mut Places,
 ) -> Verdict
     requires { ⌜ Indexed (now table) (now index) × Accepted (now configuration) × Names (now table) rule ⌝ }
     ensures { λ r. ⌜ JudgeIs (now (table .entry)) (now (configuration .entry)) rule (now (starts .exit)) (now (ends .exit)) r ⌝ }
@@ -54,8 +55,8 @@ pub fn match_rule(
     index: &Index,
     rule: usize,
     configuration: &[i64],
-    starts: &mut [usize; 16],
-    ends: &mut [usize; 16],
+    starts: &mut Places,
+    ends: &mut Places,
 ) -> HowFar
     requires { ⌜ Indexed (now table) (now index) × Accepted (now configuration) × Names (now table) rule ⌝ }
     ensures { λ r. ⌜ MatchIs (now (table .entry)) (now (configuration .entry)) rule (now (starts .exit)) (now (ends .exit)) r ⌝ }
@@ -70,8 +71,8 @@ pub fn hold_conditions<'a>(
     index: &Index,
     rule: usize,
     configuration: &'a [i64],
-    starts: &[usize; 16],
-    ends: &[usize; 16],
+    starts: &Places,
+    ends: &Places,
 ) -> HowFar
     requires { ⌜ Indexed (now table) (now index) × SomeMatched (now table) (now configuration) rule (now starts) (now ends) ⌝ }
     ensures { λ r. ⌜ HoldIs (now (table .entry)) (now (configuration .entry)) rule (now (starts .entry)) (now (ends .entry)) r ⌝ }
@@ -93,8 +94,8 @@ pub fn measure(
     index: &Index,
     rule: usize,
     configuration: &[i64],
-    starts: &[usize; 16],
-    ends: &[usize; 16],
+    starts: &Places,
+    ends: &Places,
     room: usize,
 ) -> Fit
     requires { ⌜ Indexed (now table) (now index) × SomeMatched (now table) (now configuration) rule (now starts) (now ends) ⌝ }
@@ -118,8 +119,8 @@ pub fn write_successor<'a>(
     index: &Index,
     rule: usize,
     configuration: &'a [i64],
-    starts: &[usize; 16],
-    ends: &[usize; 16],
+    starts: &Places,
+    ends: &Places,
     out: &mut [i64],
 )
     requires { ⌜ Indexed (now table) (now index) × SomeMatched (now table) (now configuration) rule (now starts) (now ends) ⌝ }

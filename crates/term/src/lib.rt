@@ -36,6 +36,9 @@ pub const FUNCTIONS: usize = 15;
 
 pub const SYMBOLS: i64 = 4096;
 
+// A number for each variable: where the parts of a match start, or where they end.
+pub type Places = [usize; VARIABLES];
+
 // The place behind what a walk has taken, or that it found something else.
 pub enum Place {
     At(usize),

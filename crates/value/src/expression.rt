@@ -6,6 +6,7 @@ use crate::leaf::given;
 use crate::leaf::leaf;
 use crate::leaf::root;
 use term::CALL;
+use term::Places;
 ghost use Rattle.value.specs.Evaluate.{CallIn, EvaluateContract, ArgumentsIn, ArgumentsContract};
 
 // The value of a call, from the roots of its arguments: three at most, one behind the other.
@@ -13,8 +14,8 @@ pub fn expression(
     table: &[i64],
     configuration: &[i64],
     at: usize,
-    starts: &[usize; 16],
-    ends: &[usize; 16],
+    starts: &Places,
+    ends: &Places,
 ) -> Evaluated
     requires { ⌜ CallIn (now table) (now configuration) (now starts) (now ends) at ⌝ }
     ensures { λ r. ⌜ EvaluateContract (now (table .entry)) (now (configuration .entry)) (now (starts .entry)) (now (ends .entry)) at r ⌝ }
@@ -44,8 +45,8 @@ fn arguments(
     configuration: &[i64],
     at: usize,
     wanted: bool,
-    starts: &[usize; 16],
-    ends: &[usize; 16],
+    starts: &Places,
+    ends: &Places,
 ) -> Evaluated
     requires { ⌜ ArgumentsIn (now table) (now configuration) (now starts) (now ends) at wanted ⌝ }
     ensures { λ r. ⌜ ArgumentsContract (now (table .entry)) (now (configuration .entry)) (now (starts .entry)) (now (ends .entry)) at wanted r ⌝ }

@@ -2,6 +2,7 @@
 use crate::Evaluated;
 use crate::Value;
 use crate::builtin::Root;
+use term::Places;
 use term::VARIABLE;
 ghost use mathlib.Core.Path.{_≡_};
 ghost use Prim.Native.Nat.{_+_, _<_};
@@ -11,7 +12,7 @@ ghost use Rattle.value.specs.Root.{ValueIn, RootIs, rootAt};
 ghost use Rattle.value.specs.Evaluate.{LeafIn, LeafContract};
 
 // The value of a variable or a literal.
-pub fn leaf(table: &[i64], at: usize, starts: &[usize; 16], ends: &[usize; 16]) -> Evaluated
+pub fn leaf(table: &[i64], at: usize, starts: &Places, ends: &Places) -> Evaluated
     requires { ⌜ LeafIn (now table) (now starts) (now ends) at ⌝ }
     ensures { λ r. ⌜ LeafContract (now (table .entry)) (now (starts .entry)) (now (ends .entry)) at r ⌝ }
 {

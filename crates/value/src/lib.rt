@@ -2,6 +2,7 @@
 use expression::expression;
 use leaf::leaf;
 use term::CALL;
+use term::Places;
 use term::VARIABLE;
 ghost use mathlib.Core.Path.{_≡_};
 ghost use Prim.Native.Nat.{_+_, _≤_};
@@ -40,8 +41,8 @@ pub fn evaluate(
     table: &[i64],
     configuration: &[i64],
     at: usize,
-    starts: &[usize; 16],
-    ends: &[usize; 16],
+    starts: &Places,
+    ends: &Places,
 ) -> Evaluated
     requires { ⌜ ExpressionIn (now table) (now configuration) (now starts) (now ends) at ⌝ }
     ensures { λ r. ⌜ EvaluateContract (now (table .entry)) (now (configuration .entry)) (now (starts .entry)) (now (ends .entry)) at r ⌝ }
@@ -82,8 +83,8 @@ pub fn condition<'a>(
     table: &'a [i64],
     configuration: &'a [i64],
     at: usize,
-    starts: &[usize; 16],
-    ends: &[usize; 16],
+    starts: &Places,
+    ends: &Places,
 ) -> Tested
     requires { ⌜ ConditionIn (now table) (now configuration) (now starts) (now ends) at ⌝ }
     ensures { λ r. ⌜ ConditionContract (now (table .entry)) (now (configuration .entry)) (now (starts .entry)) (now (ends .entry)) at r ⌝ }

@@ -3,6 +3,7 @@ use crate::builtin::Root;
 use crate::builtin::apply;
 use crate::leaf::root_at;
 use term::CALL;
+use term::Places;
 use term::VARIABLE;
 ghost use mathlib.Core.Path.{_≡_};
 ghost use mathlib.Core.Bool.{true};
@@ -26,7 +27,7 @@ pub fn is_short_call(table: &[i64], at: usize) -> bool
 }
 
 // The root of its value.
-pub fn short_call(table: &[i64], configuration: &[i64], at: usize, starts: &[usize; 16]) -> Root
+pub fn short_call(table: &[i64], configuration: &[i64], at: usize, starts: &Places) -> Root
     requires { ⌜ ShortIn (now table) (now configuration) (now starts) at ⌝ }
     ensures { λ r. ⌜ ShortContract (now (table .entry)) (now (configuration .entry)) (now (starts .entry)) at r ⌝ }
 {
@@ -37,7 +38,7 @@ pub fn short_call(table: &[i64], configuration: &[i64], at: usize, starts: &[usi
 }
 
 // The root of such an argument's value.
-fn short_root(table: &[i64], configuration: &[i64], at: usize, starts: &[usize; 16]) -> Root
+fn short_root(table: &[i64], configuration: &[i64], at: usize, starts: &Places) -> Root
     requires { ⌜ ArgumentIn (now table) (now configuration) (now starts) at ⌝ }
     ensures { λ r. ⌜ ArgumentContract (now (table .entry)) (now (configuration .entry)) (now (starts .entry)) at r ⌝ }
 {

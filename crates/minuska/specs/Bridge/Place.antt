@@ -14,6 +14,7 @@ use Rattle.minuska.specs.Word.{tagWord, datumWord, ok, encode}
 use Rattle.minuska.specs.Satisfaction.{Valuation}
 use Rattle.minuska.specs.Rule.{Rule, Table, conditionWords, ruleWords, IsTable, IsConfiguration}
 use Rattle.minuska.specs.Computed.Step.{order}
+use Rattle.minuska.specs.Bridge.Walk.{fixedNodes, variableNodes}
 
 -- the words from one place up to another
 abbrev pub part : List ℤ → ℕ → ℕ → List ℤ
@@ -141,6 +142,11 @@ pub record ActionIs (ws : List ℤ) (n r : ℕ) : Type 0 where
 pub record OrderedIs (ws : List ℤ) (i r : ℕ) : Type 0 where
   pub is : (table : Table) → IsTable ws table → (n : ℕ) → getElem? (order table) i ≡ some n → r ≡ n
   pub other : (table : Table) → IsTable ws table → getElem? (order table) i ≡ none → getElem? table r ≡ none
+
+-- The sizes of the right of rule number n: its nodes that give one node each, and its variables.
+pub record SizesAre (ws : List ℤ) (n fixed leaves : ℕ) : Type 0 where
+  pub ones : (table : Table) (rule : Rule) → IsTable ws table → getElem? table n ≡ some rule → fixed ≡ fixedNodes (single (rule .right))
+  pub variables : (table : Table) (rule : Rule) → IsTable ws table → getElem? table n ≡ some rule → leaves ≡ variableNodes (single (rule .right))
 
 -- A number of positions of that order. From a position on, up to another, the left of every rule there is seen not to match at its root, by its key.
 pub record Positions (ws : List ℤ) (to : ℕ) : Type 0 where
