@@ -84,7 +84,7 @@ fn signed(size: usize, minus: bool) -> i64 {
 }
 
 // How many words stand; where the open group starts and how many words it is to have; what is known of the next word.
-struct Reading {
+struct WordsSoFar {
     count: usize,
     start: usize,
     total: usize,
@@ -94,8 +94,8 @@ struct Reading {
 }
 
 // Between two words.
-fn behind(count: usize, start: usize, total: usize, minus: bool) -> Reading {
-    Reading {
+fn behind(count: usize, start: usize, total: usize, minus: bool) -> WordsSoFar {
+    WordsSoFar {
         count,
         start,
         total,
@@ -131,7 +131,7 @@ fn repeat(words: &mut [i64], start: usize, end: usize, total: usize) -> usize {
 }
 
 // A word that has started is put; and the place behind it.
-fn flushed(r: Reading, words: &mut [i64]) -> usize {
+fn flushed(r: WordsSoFar, words: &mut [i64]) -> usize {
     if r.started {
         return word(words, r.count, signed(r.size, r.minus));
     }
@@ -139,9 +139,9 @@ fn flushed(r: Reading, words: &mut [i64]) -> usize {
 }
 
 // One byte more.
-fn with_byte(r: Reading, byte: u8, words: &mut [i64]) -> Reading {
+fn with_byte(r: WordsSoFar, byte: u8, words: &mut [i64]) -> WordsSoFar {
     if is_digit(byte) {
-        return Reading {
+        return WordsSoFar {
             count: r.count,
             start: r.start,
             total: r.total,

@@ -3,17 +3,17 @@
 use crate::text;
 
 // How many words, and actions, are kept.
-struct Kept {
+struct Lengths {
     table: usize,
     configuration: usize,
     log: usize,
 }
 
 // A table; it is checked if it has a name.
-fn keep_table(name: &[u8], numbers: &[u8], kept: Kept, table: &mut [i64]) -> Kept {
+fn keep_table(name: &[u8], numbers: &[u8], kept: Lengths, table: &mut [i64]) -> Lengths {
     let n = crate::build::words(numbers, table);
     crate::call::table(name, crate::build::front(table, n));
-    Kept {
+    Lengths {
         table: n,
         configuration: kept.configuration,
         log: kept.log,
@@ -21,20 +21,25 @@ fn keep_table(name: &[u8], numbers: &[u8], kept: Kept, table: &mut [i64]) -> Kep
 }
 
 // A configuration; it is checked if it has a name.
-fn keep_configuration(name: &[u8], numbers: &[u8], kept: Kept, configuration: &mut [i64]) -> Kept {
+fn keep_configuration(
+    name: &[u8],
+    numbers: &[u8],
+    kept: Lengths,
+    configuration: &mut [i64],
+) -> Lengths {
     let n = crate::build::words(numbers, configuration);
     crate::call::configuration(name, crate::build::front(configuration, n));
-    Kept {
+    Lengths {
         table: kept.table,
         configuration: n,
         log: kept.log,
     }
 }
 
-fn keep_log(numbers: &[u8], kept: Kept, log: &mut [u16]) -> Kept {
+fn keep_log(numbers: &[u8], kept: Lengths, log: &mut [u16]) -> Lengths {
     let mut words = [0i64; 4200];
     let n = crate::build::words(numbers, &mut words);
-    Kept {
+    Lengths {
         table: kept.table,
         configuration: kept.configuration,
         log: crate::build::shorts(crate::build::front(&words, n), log),
@@ -70,11 +75,11 @@ fn said(
     key: u8,
     name: &[u8],
     numbers: &[u8],
-    kept: Kept,
+    kept: Lengths,
     table: &mut [i64],
     configuration: &mut [i64],
     log: &mut [u16],
-) -> Kept {
+) -> Lengths {
     match key {
         b't' => keep_table(name, numbers, kept, table),
         b'c' => keep_configuration(name, numbers, kept, configuration),
@@ -96,11 +101,11 @@ fn said(
 
 fn line(
     s: &[u8],
-    kept: Kept,
+    kept: Lengths,
     table: &mut [i64],
     configuration: &mut [i64],
     log: &mut [u16],
-) -> Kept {
+) -> Lengths {
     let end = text::find(s, b';');
     said(
         text::first(s),
@@ -124,7 +129,7 @@ fn behind(at: usize, length: usize) -> usize {
 }
 
 fn lines(input: &[u8], table: &mut [i64], configuration: &mut [i64], log: &mut [u16]) {
-    let mut kept = Kept {
+    let mut kept = Lengths {
         table: 0,
         configuration: 0,
         log: 0,

@@ -3,7 +3,7 @@ pub mod CallerLaw
 pub mod LinesLaw
 pub mod RequestLaw
 pub mod ContractLaw
-pub mod CaseLaw
+pub mod ExchangeLaw
 -- The turns and returns of the routines, over plain variables.
 pub mod LinesTurn
 pub mod TextTurn

@@ -2,6 +2,6 @@
 pub mod Input
 pub mod Output
 pub mod Contract
-pub mod Case
+pub mod Exchange
 -- What the routines below `answer` do. No part of the meaning: `proofs/` shows that together they read exactly the inputs.
 pub mod Computed

@@ -27,7 +27,7 @@ use Rattle.decimal.specs.Line.{parted, isWord, isAction, isLimit}
 use Rattle.cli.specs.Input.{line, Request, inputText, Field, IsInput}
 use Rattle.cli.specs.Output.{answered, answerText, reproducedText, notReproducedText}
 use Rattle.cli.specs.Contract.{maxOutput}
-use Rattle.cli.specs.Case.{Case, cases, Answered, AllAnswered}
+use Rattle.cli.specs.Exchange.{Exchange, cases, Answered, AllAnswered}
 
 -- ---- what the program prints by the table of cases, as text
 abbrev refusalText : ℕ → List ℕ
@@ -122,7 +122,7 @@ sample-input log limit input text l n =
     }
 
 -- ---- bytes that are the text of a replay of the table
-answered-case : (log : List ℕ) (limit : ℕ) (x : Printed) (c : Case) → Writes (replays log limit x) → c .input ≡ inputText (sampled log limit)
+answered-case : (log : List ℕ) (limit : ℕ) (x : Printed) (c : Exchange) → Writes (replays log limit x) → c .input ≡ inputText (sampled log limit)
     → T (fieldTest decimal isAction 0 256 log) → T (fieldTest decimal isLimit 1 1 (limit ∷ [])) → printedText x ≡ c .output → Answered c
 answered-case log limit x c w text l n out output output′ r room k =
     let read : k .request ≡ some (sampled log limit) = k .reads (sampled log limit) .1 (sample-input log limit (c .input) text l n) in
