@@ -26,7 +26,10 @@ same-length : tie.Need-same-length
 same-length c = search needs
 
 returns : tie.Need-returns
-returns c = no-table (c .before .before .before .before .before .before .before .before .before .before .before .before .before .before .args .table-line .now) (c .before .before .before .before .before .before .before .before .before .before .before .before .before .before .args .configuration-line .now) (c .before .before .before .before .before .before .before .before .before .before .before .before .before .before .args .log-line .now) (c .before .before .before .before .before .before .before .before .before .before .before .before .before .before .args .limit-line .now) _ _ _ (not-took _ _ _ _ (c .before .before .before .before .before .before .before .read-words .ensures) (c .before .before .before .before .enum-told .given .1)) (c .before .before .put-refusal .ensures)
+returns c =
+    let r = c .before .before .before .before .before .before .before in
+    let s = r .before .before .before .before .before .before .before in
+    no-table (s .args .table-line .now) (s .args .configuration-line .now) (s .args .log-line .now) (s .args .limit-line .now) _ _ _ (not-took _ _ _ _ (r .read-words .ensures) (c .before .before .before .before .enum-told .given .1)) (c .before .before .put-refusal .ensures)
 
 -- what was read of a line
 table : (c : tie.After-words) → Took (items wordOf (c .before .before .before .before .before .before .before .before .before .before .args .table-line .now)) 2048 (c .before .before .before .read-words .last .1 .0) (c .words .given .0 .0)
@@ -51,7 +54,11 @@ same-length-2 : tie.Need-same-length-2
 same-length-2 c = search needs
 
 returns-2 : tie.Need-returns-2
-returns-2 c = no-configuration (c .before .before .before .before .before .before .before .before .before .before .before .before .before .before .before .before .before .before .before .before .args .table-line .now) (c .before .before .before .before .before .before .before .before .before .before .before .before .before .before .before .before .before .before .before .before .args .configuration-line .now) (c .before .before .before .before .before .before .before .before .before .before .before .before .before .before .before .before .before .before .before .before .args .log-line .now) (c .before .before .before .before .before .before .before .before .before .before .before .before .before .before .before .before .before .before .before .before .args .limit-line .now) _ _ _ _ (table (c .before .before .before .before .before .before .before .before .before .before) .is) (not-took _ _ _ _ (c .before .before .before .before .before .before .before .read-words2 .ensures) (c .before .before .before .before .enum-told2 .given .1)) (c .before .before .put-refusal2 .ensures)
+returns-2 c =
+    let r = c .before .before .before .before .before .before .before in
+    let w = r .before .before .before in
+    let s = w .before .before .before .before .before .before .before .before .before .before in
+    no-configuration (s .args .table-line .now) (s .args .configuration-line .now) (s .args .log-line .now) (s .args .limit-line .now) _ _ _ _ (table w .is) (not-took _ _ _ _ (r .read-words2 .ensures) (c .before .before .before .before .enum-told2 .given .1)) (c .before .before .put-refusal2 .ensures)
 
 configuration : (c : tie.After-more) → Took (items wordOf (c .before .before .before .before .before .before .before .before .before .before .before .before .before .before .before .before .args .configuration-line .now)) 1024 (c .before .before .before .read-words2 .last .1 .0) (c .more .given .0 .0)
 configuration c = took _ _ _ _ (c .before .before .before .read-words2 .ensures) _ (c .more .given .1) (c .before .before .before .read-words2 .kept .1 .0)
@@ -75,7 +82,12 @@ same-length-3 : tie.Need-same-length-3
 same-length-3 c = search needs
 
 returns-3 : tie.Need-returns-3
-returns-3 c = no-log (c .before .before .before .before .before .before .before .before .before .before .before .before .before .before .before .before .before .before .before .before .before .before .before .before .before .before .args .table-line .now) (c .before .before .before .before .before .before .before .before .before .before .before .before .before .before .before .before .before .before .before .before .before .before .before .before .before .before .args .configuration-line .now) (c .before .before .before .before .before .before .before .before .before .before .before .before .before .before .before .before .before .before .before .before .before .before .before .before .before .before .args .log-line .now) (c .before .before .before .before .before .before .before .before .before .before .before .before .before .before .before .before .before .before .before .before .before .before .before .before .before .before .args .limit-line .now) _ _ _ _ (table (c .before .before .before .before .before .before .before .before .before .before .before .before .before .before .before .before) .is) _ (configuration (c .before .before .before .before .before .before .before .before .before .before) .is) (not-took _ _ _ _ (c .before .before .before .before .before .before .before .read-log .ensures) (c .before .before .before .before .enum-told3 .given .1)) (c .before .before .put-refusal3 .ensures)
+returns-3 c =
+    let r = c .before .before .before .before .before .before .before in
+    let m = r .before .before .before in
+    let w = m .before .before .before .before .before .before in
+    let s = w .before .before .before .before .before .before .before .before .before .before in
+    no-log (s .args .table-line .now) (s .args .configuration-line .now) (s .args .log-line .now) (s .args .limit-line .now) _ _ _ _ (table w .is) _ (configuration m .is) (not-took _ _ _ _ (r .read-log .ensures) (c .before .before .before .before .enum-told3 .given .1)) (c .before .before .put-refusal3 .ensures)
 
 log : (c : tie.After-actions) → Took (logItems (c .before .before .before .before .before .before .before .before .before .before .before .before .before .before .before .before .before .before .before .before .before .before .args .log-line .now)) 256 (c .before .before .before .read-log .last .1 .0) (c .actions .given .0 .0)
 log c = took _ _ _ _ (c .before .before .before .read-log .ensures) _ (c .actions .given .1) (c .before .before .before .read-log .kept .1 .0)
@@ -96,19 +108,39 @@ same-length-4 : tie.Need-same-length-4
 same-length-4 c = search needs
 
 returns-4 : tie.Need-returns-4
-returns-4 c = no-limit (c .before .before .before .before .before .before .before .before .before .before .before .before .before .before .before .before .before .before .before .before .before .before .before .before .before .before .before .before .before .before .args .table-line .now) (c .before .before .before .before .before .before .before .before .before .before .before .before .before .before .before .before .before .before .before .before .before .before .before .before .before .before .before .before .before .before .args .configuration-line .now) (c .before .before .before .before .before .before .before .before .before .before .before .before .before .before .before .before .before .before .before .before .before .before .before .before .before .before .before .before .before .before .args .log-line .now) (c .before .before .before .before .before .before .before .before .before .before .before .before .before .before .before .before .before .before .before .before .before .before .before .before .before .before .before .before .before .before .args .limit-line .now) _ _ _ _ (table (c .before .before .before .before .before .before .before .before .before .before .before .before .before .before .before .before .before .before .before .before) .is) _ (configuration (c .before .before .before .before .before .before .before .before .before .before .before .before .before .before) .is) _ (log (c .before .before .before .before .before .before .before .before) .is) (limit-not _ _ (c .before .before .before .before .before .before .read-limit .ensures) (c .before .before .before .before .enum-told4 .given .1)) (c .before .before .put-refusal4 .ensures)
+returns-4 c =
+    let r = c .before .before .before .before .before .before in
+    let a = r .before .before in
+    let m = a .before .before .before .before .before .before in
+    let w = m .before .before .before .before .before .before in
+    let s = w .before .before .before .before .before .before .before .before .before .before in
+    no-limit (s .args .table-line .now) (s .args .configuration-line .now) (s .args .log-line .now) (s .args .limit-line .now) _ _ _ _ (table w .is) _ (configuration m .is) _ (log a .is) (limit-not _ _ (r .read-limit .ensures) (c .before .before .before .before .enum-told4 .given .1)) (c .before .before .put-refusal4 .ensures)
 
 array-share-prefix-table : tie.Need-array-share-prefix-table
-array-share-prefix-table c = table (c .before .before .before .before .before .before .before .before .before .before .before .before .before .before .before .before .before) .within
+array-share-prefix-table c =
+    let a = c .before .before .before .before .before in
+    let m = a .before .before .before .before .before .before in
+    let w = m .before .before .before .before .before .before in
+    table w .within
 
 slice-aggregate-answer-request : tie.Need-slice-aggregate-answer-request
-slice-aggregate-answer-request c = sym (length-take-le _ _ (table (c .before .before .before .before .before .before .before .before .before .before .before .before .before .before .before .before .before .before) .within))
+slice-aggregate-answer-request c =
+    let a = c .before .before .before .before .before .before in
+    let m = a .before .before .before .before .before .before in
+    let w = m .before .before .before .before .before .before in
+    sym (length-take-le _ _ (table w .within))
 
 array-share-prefix-configuration : tie.Need-array-share-prefix-configuration
-array-share-prefix-configuration c = configuration (c .before .before .before .before .before .before .before .before .before .before .before .before) .within
+array-share-prefix-configuration c =
+    let a = c .before .before .before .before .before .before in
+    let m = a .before .before .before .before .before .before in
+    configuration m .within
 
 slice-aggregate-answer-request-2 : tie.Need-slice-aggregate-answer-request-2
-slice-aggregate-answer-request-2 c = sym (length-take-le _ _ (configuration (c .before .before .before .before .before .before .before .before .before .before .before .before .before) .within))
+slice-aggregate-answer-request-2 c =
+    let a = c .before .before .before .before .before .before .before in
+    let m = a .before .before .before .before .before .before in
+    sym (length-take-le _ _ (configuration m .within))
 
 array-share-prefix-log : tie.Need-array-share-prefix-log
 array-share-prefix-log c = log (c .before .before .before .before .before .before .before) .within
@@ -123,7 +155,13 @@ same-length-5 : tie.Need-same-length-5
 same-length-5 c = search needs
 
 returns-5 : tie.Need-returns-5
-returns-5 c = all-read (c .before .before .before .before .before .before .before .before .before .before .before .before .before .before .before .before .before .before .before .before .before .before .before .before .before .before .before .before .before .before .before .before .before .before .args .table-line .now) (c .before .before .before .before .before .before .before .before .before .before .before .before .before .before .before .before .before .before .before .before .before .before .before .before .before .before .before .before .before .before .before .before .before .before .args .configuration-line .now) (c .before .before .before .before .before .before .before .before .before .before .before .before .before .before .before .before .before .before .before .before .before .before .before .before .before .before .before .before .before .before .before .before .before .before .args .log-line .now) (c .before .before .before .before .before .before .before .before .before .before .before .before .before .before .before .before .before .before .before .before .before .before .before .before .before .before .before .before .before .before .before .before .before .before .args .limit-line .now) _ _ _ _ (table (c .before .before .before .before .before .before .before .before .before .before .before .before .before .before .before .before .before .before .before .before .before .before .before .before) .is) _ (configuration (c .before .before .before .before .before .before .before .before .before .before .before .before .before .before .before .before .before .before) .is) _ (log (c .before .before .before .before .before .before .before .before .before .before .before .before) .is) _ (limit-read _ _ _ (c .before .before .before .before .before .before .before .before .before .before .read-limit .ensures) (c .before .before .before .before .before .before .before .before .limit .given .1)) (c .before .before .answer-request .ensures)
+returns-5 c =
+    let l = c .before .before .before .before .before .before .before .before in
+    let a = l .before .before .before .before in
+    let m = a .before .before .before .before .before .before in
+    let w = m .before .before .before .before .before .before in
+    let s = w .before .before .before .before .before .before .before .before .before .before in
+    all-read (s .args .table-line .now) (s .args .configuration-line .now) (s .args .log-line .now) (s .args .limit-line .now) _ _ _ _ (table w .is) _ (configuration m .is) _ (log a .is) _ (limit-read _ _ _ (l .before .before .read-limit .ensures) (l .limit .given .1)) (c .before .before .answer-request .ensures)
 
 pub answer-lines-spec : {M : Type 1} → statement M
 answer-lines-spec =

@@ -30,7 +30,15 @@ same-length : tie.Need-same-length
 same-length c = search needs
 
 returns : tie.Need-returns
-returns c = reproduced-wrote (c .before .before .before .before .before .before .before .before .before .before .before .before .before .before .before .before .before .before .before .before .before .before .before .before .before .before .before .args .output .now) _ _ _ _ _ _ (c .before .before .before .before .before .before .before .before .before .before .before .before .before .before .before .before .before .before .before .before .before .before .before .before .before .before .before .args .choices .now) (c .before .before .before .before .before .before .before .before .before .before .before .before .before .before .before .before .before .before .before .before .before .before .before .before .before .before .before .args .words .now) _ _ _ _ _ _ (c .before .before .before .before .before .before .before .before .before .before .before .before .before .before .before .before .before .before .before .before .before .before .put-text .ensures) (c .before .before .before .before .before .before .before .before .before .before .before .before .before .before .before .before .before .before .put-decimal .ensures .0) (c .before .before .before .before .before .before .before .before .before .before .before .before .before .before .put-more-numbers .ensures .0) (c .before .before .before .before .before .before .before .before .before .before .put-byte .ensures) (c .before .before .before .before .before .before .put-words .ensures .0) (c .before .before .put-byte2 .ensures) (omega (arith, c .before .before .before .before .before .before .before .before .before .before .before .before .before .before .before .before .before .before .before .before .before .before .before .before .before .before .before .pre, c .before .before .before .before .before .before .before .before .before .before .before .before .before .before .before .before .before .before .before .before .before .before .put-text .ensures .end, c .before .before .before .before .before .before .before .before .before .before .before .before .before .before .before .before .before .before .put-decimal .ensures .1, c .before .before .before .before .before .before .before .before .before .before .before .before .before .before .put-more-numbers .ensures .1, c .before .before .before .before .before .before .before .before .before .before .put-byte .ensures .end, c .before .before .before .before .before .before .put-words .ensures .1))
+returns c =
+    let last = c .before .before in
+    let words = last .before .before .before .before in
+    let comma = words .before .before .before .before in
+    let choices = comma .before .before .before .before in
+    let count = choices .before .before .before .before in
+    let text = count .before .before .before .before in
+    let s = text .before .before .before .before .before in
+    reproduced-wrote (s .args .output .now) _ _ _ _ _ _ (s .args .choices .now) (s .args .words .now) _ _ _ _ _ _ (text .put-text .ensures) (count .put-decimal .ensures .0) (choices .put-more-numbers .ensures .0) (comma .put-byte .ensures) (words .put-words .ensures .0) (last .put-byte2 .ensures) (omega (arith, s .pre, text .put-text .ensures .end, count .put-decimal .ensures .1, choices .put-more-numbers .ensures .1, comma .put-byte .ensures .end, words .put-words .ensures .1))
 
 pub put-reproduced-spec : {M : Type 1} → statement M
 put-reproduced-spec =
