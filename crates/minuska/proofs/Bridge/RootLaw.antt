@@ -3,12 +3,13 @@ use mathlib.Core.Path.{_≡_, refl, ap, ap₂}
 use mathlib.Core.Logic.{inl, inr}
 use mathlib.Core.Option.{Option, none, some}
 use Prim.Native.Nat.{ℕ, suc}
-use Rattle.minuska.specs.Term.{Label, error, truth, whole, variable, call, symbol, Forest, nil, node, Term, single, termCount}
+use Rattle.minuska.specs.Term.{Label, Forest, nil, node, Term, single, termCount, Role, aVariable, aCall, plain, role}
 use Rattle.minuska.specs.Word.{tagWord, datumWord}
-use Rattle.minuska.specs.Satisfaction.{Valuation, Matches}
+use Rattle.minuska.specs.Satisfaction.{Valuation, MatchesAt, Matches}
 use Rattle.minuska.specs.Computed.Match.{unbound, tryMatch}
 use Rattle.minuska.specs.Bridge.Place.{RootMeets}
 use Rattle.minuska.proofs.MatchLaw.{match-sound}
+use Rattle.minuska.proofs.NodeLaw.{variable-label}
 
 matches-count : (f g : Forest) (ρ : Valuation) → Matches ρ f g → termCount f ≡ termCount g
 matches-count nil nil ρ m = refl
@@ -21,12 +22,12 @@ module _ (ls : Forest) (g : Term) (ρ : Valuation) where
   same l m = inr (ap₂ tagWord (m .0) (matches-count ls (g .children) ρ (m .1)), ap datumWord (m .0))
 
   meets : (l : Label) → Matches ρ (node l ls nil) (single g) → RootMeets (record { label = l; children = ls }) g
-  meets error m = same error (m .0)
-  meets (truth b) m = same (truth b) (m .0)
-  meets (whole z) m = same (whole z) (m .0)
-  meets (variable v) m = inl refl
-  meets (call c) m = absurd (m .0)
-  meets (symbol s) m = same (symbol s) (m .0)
+  meets l m = pick (role l) refl (m .0)
+    where
+      pick : (r : Role) → role l ≡ r → MatchesAt ρ r l g (Matches ρ ls (g .children)) → RootMeets (record { label = l; children = ls }) g
+      pick (aVariable v) q n = inl (ap (λ (k : Label). tagWord k (termCount ls)) (variable-label l v q))
+      pick (aCall c) q n = absurd n
+      pick plain q n = same l n
 
 -- WHERE THE ROOTS DO NOT MEET, THE LEFT DOES NOT MATCH
 pub root-misses : (l g : Term) → (RootMeets l g → ⊥) → tryMatch (single l) (single g) unbound ≡ none
