@@ -18,7 +18,7 @@ use Rattle.minuska.proofs.WordLaw.{encode-length}
 use Rattle.minuska.proofs.SpanLaw.{read-term-iff}
 use Rattle.minuska.proofs.Bridge.ReadLaw.{span-reads}
 use Rattle.term.specs.declared.Place.the-variants as P
-use Rattle.table.specs.declared.node.Level.{Level}
+use Rattle.table.specs.Level.{Level}
 use Rattle.table.specs.Below.{Below}
 use Rattle.table.specs.Below as B
 use Rattle.table.specs.Node.{admitted, seenAfter}

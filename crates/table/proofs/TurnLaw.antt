@@ -11,7 +11,7 @@ use lib.Seq.{drop-cons}
 use borrow.Author.Tests.{le-leb, lt-leb}
 use Rattle.minuska.specs.Basics.{provided}
 use Rattle.term.specs.declared.Place.the-variants as P
-use Rattle.table.specs.declared.node.Level.{Level}
+use Rattle.table.specs.Level.{Level}
 use Rattle.table.specs.Walk.{Walked, walk, within, placed, partWalk, PartContract}
 
 -- ---- the words at a place
