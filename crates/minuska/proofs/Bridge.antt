@@ -1,6 +1,7 @@
 pub mod WriteLaw
 pub mod ItemLaw
 pub mod AppendedLaw
+pub mod SizeLaw
 pub mod PlaceLaw
 pub mod IndexLaw
 pub mod RootLaw

@@ -63,7 +63,7 @@ pub enum ReplayAnswer {
 }
 
 // The index of a table: a row of numbers for each of at most 256 rules (specs/Bridge/Place). A table's check fills it; every routine on checked words is lent it.
-pub const PER_RULE: usize = 6;
+pub const PER_RULE: usize = 8;
 
 pub const INDEX_LEN: usize = limits::MAX_RULES * PER_RULE;
 

@@ -16,8 +16,7 @@ use Rattle.minuska.specs.Rule.{isExpression, covers, okTerm, okCondition, condi
 use Rattle.minuska.specs.Computed.Read.{readTerm, readConditions}
 use Rattle.minuska.proofs.Tests.{came, and-left, and-right, and-both, provided-some, provided-true}
 use Rattle.minuska.proofs.Good.{GoodTerm, GoodCondition, good-condition}
-use Rattle.table.specs.declared.node.Level.{Level}
-use Rattle.table.specs.declared.node.Level.the-variants.{Expression}
+use Rattle.table.specs.Level.{Level, Expression}
 use Rattle.table.specs.Walk.{partEnd, partSeen}
 use Rattle.table.specs.Rule.{conditionsEnd}
 use Rattle.table.proofs.PartLaw.{part-found, part-missed}

@@ -11,6 +11,7 @@ use lib.ListN.{length, take, drop, getD, length-append, length-drop, take-append
 use lib.Seq.{length-take-le, take-at, drop-at, drop-drop, sets, sets-eq, length-sets}
 use borrow.Author.Tests.{le-leb, lt-leb}
 use Rattle.minuska.specs.Basics.{_>>=_, provided}
+use Rattle.minuska.specs.Term.{single}
 use Rattle.minuska.specs.Rule.{Rule, Table, ruleWords}
 use Rattle.minuska.specs.declared.Check.{Check}
 use Rattle.minuska.specs.declared.Check.the-variants.{Good, Refused}
@@ -20,10 +21,12 @@ use Rattle.minuska.specs.Computed.Read.{numberBelow, isEmpty, readRule, readRul
 use Rattle.minuska.specs.Computed.Outcome.{checked, tableCheck}
 use Rattle.minuska.specs.Bridge.Place.{Stands, leftWords, rightWords, conditionsWords, leftFrom, keyOf, rootKey, perRule, indexLength, rulePlaces, placesFrom, places, Indexed}
 use Rattle.minuska.proofs.Tests.{came, provided-some, and-right, true-of}
+use Rattle.minuska.proofs.Good as G
 use Rattle.minuska.proofs.Good.{good}
 use Rattle.minuska.proofs.TableLaw.{rule-read, read-table-iff}
 use Rattle.minuska.proofs.Bridge.PlaceLaw.{stands-of, stands-head, stands-word}
 use Rattle.minuska.proofs.Bridge.IndexLaw.{left-stands}
+use Rattle.minuska.proofs.Bridge.SizeLaw.{sizes-few}
 use Rattle.table.specs.Number.{naturalOf}
 use Rattle.table.specs.Rule.{RuleAt}
 use Rattle.table.specs.Index.{placesThen, placesRead, placesCounted, placesFound, rowOf, RowFits, IndexTableContract}
@@ -154,7 +157,7 @@ more-is : (r : Rule) (o : Option (Table × List ℤ)) → restCheck (o >>= moreT
 more-is r none = refl
 more-is r (some p) = refl
 
-module _ (ws : List ℤ) (at right conditions end : ℕ) (p : RuleAt ws at right conditions end) where
+module _ (ws : List ℤ) (at right conditions end fixed leaves : ℕ) (p : RuleAt ws at right conditions end fixed leaves) where
   abbrev r : Rule
   r = p .rule
 
@@ -171,6 +174,9 @@ module _ (ws : List ℤ) (at right conditions end : ℕ) (p : RuleAt ws at right
   read-words : ruleWords r ++ drop end ws ≡ drop at ws
   read-words = rule-read (drop at ws) (r, drop end ws) (p .read) .1
 
+  okay : G.Good r
+  okay = good r (rule-read (drop at ws) (r, drop end ws) (p .read) .0)
+
   rule-stands : Stands ws at (ruleWords r)
   rule-stands =
       let n = ap length read-words in
@@ -185,10 +191,10 @@ module _ (ws : List ℤ) (at right conditions end : ℕ) (p : RuleAt ws at right
   root-key = let s = left-stands ws at r rule-stands in ap₂ keyOf (stands-head s (pos 0)) (stands-word s 1 (pos 0) (omega arith))
 
   -- its row is written from what was found
-  row-is : rulePlaces at r ≡ rowOf ws at right conditions end
-  row-is = cc (p .rightIs, p .conditionsIs, p .endIs, root-key, action-word)
+  row-is : rulePlaces at r ≡ rowOf ws at right conditions end fixed leaves
+  row-is = cc (p .rightIs, p .conditionsIs, p .endIs, root-key, action-word, p .fixedIs, p .leavesIs)
 
-  pub row-fits : length ws ≤ 65536 → RowFits ws at right conditions end
+  pub row-fits : length ws ≤ 65536 → RowFits ws at right conditions end fixed leaves
   row-fits h =
       let w = rule-stands .within in
       let n = rule-length in
@@ -204,7 +210,9 @@ module _ (ws : List ℤ) (at right conditions end : ℕ) (p : RuleAt ws at right
         endAfter = omega arith;
         endFits = omega arith;
         short = h;
-        action = let e = action-word in let g = good r (rule-read (drop at ws) (r, drop end ws) (p .read) .0) .action in omega arith;
+        action = let e = action-word in let g = okay .action in omega arith;
+        ones = let s = sizes-few (single (r .right)) in let g = okay .right .small in let e = p .fixedIs in omega arith;
+        variables = let s = sizes-few (single (r .right)) in let g = okay .right .small in let e = p .leavesIs in omega arith;
       }
 
 module _ (index : List ℕ) (i : ℕ) (vs : List ℕ) (h : i + length vs ≤ length index) where
@@ -269,10 +277,10 @@ module _ (ws : List ℤ) (old : List ℕ) where
           (sym (r .check ∙ (ap (λ (n : ℕ). restCheck (readRules n (drop at ws))) one ∙ ap (λ (o : Option (Rule × List ℤ)). restCheck (o >>= ruleThen k)) e)))
           (closed (ap (λ (n : ℕ). placesRead n at (drop at ws)) one ∙ ap (λ (o : Option (Rule × List ℤ)). placesThen at o (λ i xs. placesRead k i xs)) e))
 
-      pub goes-on : (right conditions end : ℕ) → RuleAt ws at right conditions end → Reached ws old (sets index (perRule * rule) (rowOf ws at right conditions end)) count (rule + 1) end
-      goes-on right conditions end p =
+      pub goes-on : (right conditions end fixed leaves : ℕ) → RuleAt ws at right conditions end fixed leaves → Reached ws old (sets index (perRule * rule) (rowOf ws at right conditions end fixed leaves)) count (rule + 1) end
+      goes-on right conditions end fixed leaves p =
           let k = count - (rule + 1) in
-          let vs : List ℕ = rowOf ws at right conditions end in
+          let vs : List ℕ = rowOf ws at right conditions end fixed leaves in
           let l = r .long in
           let f = r .few in
           let room : perRule * rule + length vs ≤ length index = omega arith in
@@ -287,8 +295,8 @@ module _ (ws : List ℤ) (old : List ℕ) where
             found =
                 r .found ∙ (ap (λ (xs : List ℕ). take (perRule * rule) index ++ xs)
                 (ap (λ (n : ℕ). placesRead n at (drop at ws)) one ∙ (ap (λ (o : Option (Rule × List ℤ)). placesThen at o (λ i xs. placesRead k i xs)) (p .read) ∙
-                (ap (λ (xs : List ℕ). xs ++ placesRead k (at + length (ruleWords (p .rule))) (drop end ws)) (row-is ws at right conditions end p) ∙
-                ap (λ (i : ℕ). vs ++ placesRead k i (drop end ws)) (rule-length ws at right conditions end p)))) ∙
+                (ap (λ (xs : List ℕ). xs ++ placesRead k (at + length (ruleWords (p .rule))) (drop end ws)) (row-is ws at right conditions end fixed leaves p) ∙
+                ap (λ (i : ℕ). vs ++ placesRead k i (drop end ws)) (rule-length ws at right conditions end fixed leaves p)))) ∙
                 (sym (append-assoc (take (perRule * rule) index) vs rest) ∙
                 ap (λ (xs : List ℕ). xs ++ rest) (sym (take-stored index (perRule * rule) vs room) ∙ ap (λ (i : ℕ). take i new) (sym next))));
             kept =

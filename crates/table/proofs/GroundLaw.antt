@@ -13,16 +13,14 @@ use Rattle.minuska.specs.Basics.{_>>=_, provided}
 use Rattle.minuska.specs.Computed.Read.{readNode}
 use Rattle.minuska.specs.Term.{Label, Role, aVariable, aCall, plain, role, groundAt}
 use Rattle.term.specs.TermEnd.{groundLabel, childrenIf, extent, placeOf, groundTermsEnd}
-use Rattle.term.specs.declared.Place.{Place}
 use Rattle.term.specs.declared.Place.the-variants as P
 use Rattle.term.proofs.TermEndLaw.{extent-long, ground-terms-are, place-some}
-use Rattle.table.specs.declared.node.Level.{Level}
-use Rattle.table.specs.declared.node.Level.the-variants.{Ground}
+use Rattle.table.specs.Level.{Level, Ground}
 use Rattle.table.specs.Below.{Below}
 use Rattle.table.specs.Below as B
 use Rattle.table.specs.Node.{nodeAs, nodeIn, nodeOf, admitNode, admitted, seenAfter}
 use Rattle.table.specs.Walk.{Walked, onward, walk}
-use Rattle.table.specs.Reach.{Reaches, Stops, EndIs}
+use Rattle.table.specs.Reach.{Reaches, Stops}
 use Rattle.table.proofs.BasicLaw.{never}
 use Rattle.table.proofs.KeepLaw.{node-keeps}
 use Rattle.table.proofs.ReachLaw.{more}
@@ -98,7 +96,3 @@ module _ (ws : List ℤ) (at k : ℕ) (seen : List Bool) where
       no-place : (o : Option ℕ) → P.Nowhere ≡ placeOf at o → o ≡ none
       no-place none e = refl
       no-place (some m) e = absurd (never (cc))
-
-  pub ground-ends : at ≤ length ws → (r : Place) → r ≡ groundTermsEnd ws at k → EndIs ws Ground at k seen seen r
-  ground-ends h (P.At e) q = ground-reaches h e q
-  ground-ends h P.Nowhere q = ground-stops q

@@ -13,7 +13,7 @@ use lib.ListN.{length, getD, getElem?}
 use borrow.Author.Tests.{leb-true, leb-false}
 use Rattle.minuska.specs.Rule.{Rule, Table, IsTable}
 use Rattle.minuska.specs.Computed.Step.{upFrom, order}
-use Rattle.minuska.specs.Bridge.Place.{Stands, leftWords, rightWords, conditionsWords, leftFrom, rightFrom, conditionsFrom, firstRule, perRule, Indexed, Names, PartIs, RuleCountIs, ActionIs, OrderedIs, Positions}
+use Rattle.minuska.specs.Bridge.Place.{Stands, leftWords, rightWords, conditionsWords, leftFrom, rightFrom, conditionsFrom, firstRule, perRule, Indexed, Names, PartIs, RuleCountIs, ActionIs, OrderedIs, SizesAre, Positions}
 use Rattle.minuska.proofs.Bridge.IndexLaw.{one-table, RulePlaced, rule-placed, left-stands, right-stands, conditions-stand}
 use Rattle.minuska.proofs.Bridge.PositionLaw.{element-there, few-rules, order-length}
 use Rattle.minuska.proofs.OrderLaw.{named-below}
@@ -73,6 +73,13 @@ module _ (ws : List ℤ) (index : List ℕ) (n : ℕ) (x : Indexed ws index) whe
       record {
         is = λ t r p e. q ∙ action-at t r p e;
         other = λ t p e. absurd (Option·none-ne-some (a .rule) (sym e ∙ (ap (λ (u : Table). getElem? u n) (one-table ws t (a .table) p (a .is)) ∙ a .numbered)));
+      }
+
+  pub sizes-are : (fixed leaves : ℕ) → fixed ≡ getD index (perRule * n + 6) 0 → leaves ≡ getD index (perRule * n + 7) 0 → SizesAre ws n fixed leaves
+  sizes-are fixed leaves a b =
+      record {
+        ones = λ t r p e. a ∙ placed t r p e .numbers 6 (omega arith);
+        variables = λ t r p e. b ∙ placed t r p e .numbers 7 (omega arith);
       }
 
   part-is : {words : Rule → List ℤ} {from to : ℕ} → ((r : Rule) → RulePlaced ws index n r → Stands ws from (words r) × (to ≡ from + length (words r))) → PartIs words ws n from to

@@ -5,8 +5,7 @@ use mathlib.Core.List.{List, [], _∷_, _++_}
 use Prim.Native.Nat.{ℕ, zero, suc, _+_}
 use lib.IntN.{ℤ}
 use lib.ListN.{drop, getD, replicate}
-use Rattle.table.specs.declared.node.Level.{Level}
-use Rattle.table.specs.declared.node.Level.the-variants.{Left, Right, Expression, Ground}
+use Rattle.table.specs.Level.{Level, Left, Right, Expression, Ground}
 use Rattle.table.specs.Below.{Below}
 use Rattle.table.specs.Below as B
 use Rattle.table.specs.declared.node.Node.{Node}

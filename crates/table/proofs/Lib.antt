@@ -4,6 +4,7 @@ pub mod NodeLaw
 pub mod TurnLaw
 pub mod ReachLaw
 pub mod ScanLaw
+pub mod SizeLaw
 pub mod PartLaw
 pub mod TestLaw
 pub mod KeepLaw

@@ -20,8 +20,7 @@ use Rattle.term.specs.TermAt.{NodeWords}
 use Rattle.term.specs.TermEnd.{anyLabel, groundLabel, childrenIf, childrenOf, GroundNode}
 use Rattle.table.specs.Number.{naturalOf}
 use Rattle.table.specs.Node.{nodeAs, nodeIn, nodeOf, takesCall, takesVariable, flags, sideLevel, TakesVariable, admitNode, admitted}
-use Rattle.table.specs.declared.node.Level.{Level}
-use Rattle.table.specs.declared.node.Level.the-variants.{Expression}
+use Rattle.table.specs.Level.{Level, Expression}
 use Rattle.table.specs.Below as B
 use Rattle.table.specs.declared.node.Node.the-variants as N
 use Rattle.table.proofs.BasicLaw.{never}

@@ -1,4 +1,4 @@
--- A term walked is a term read: `part_end` finds the place behind a term exactly if the words there are one that passes.
+-- A term walked is a term read: the walk finds the place behind a term exactly if the words there are one that passes.
 use mathlib.Core.Path.{_≡_, refl, sym, _∙_, ap, subst}
 use mathlib.Core.Bool.{Bool}
 use mathlib.Core.Option.{Option, none, some, Option·none-ne-some, Option·some-injective}
@@ -18,7 +18,7 @@ use Rattle.minuska.proofs.WordLaw.{encode-length}
 use Rattle.minuska.proofs.SpanLaw.{read-term-iff}
 use Rattle.minuska.proofs.Bridge.ReadLaw.{span-reads}
 use Rattle.term.specs.declared.Place.the-variants as P
-use Rattle.table.specs.declared.node.Level.{Level}
+use Rattle.table.specs.Level.{Level}
 use Rattle.table.specs.Below.{Below}
 use Rattle.table.specs.Below as B
 use Rattle.table.specs.Node.{admitted, seenAfter}
@@ -83,7 +83,7 @@ module _ (xs : List ℤ) (at : ℕ) (l : Level) (seen : List Bool) where
       after none = refl
       after (some s) = walk-nothing (p .1) (at + length (encode (single (p .0)))) s
 
--- ---- what `part_end` has found
+-- ---- what is found of a term
 pub record Part (ws : List ℤ) (at : ℕ) (l : Level) (seen seen′ : List Bool) (e : ℕ) : Type 0 where
   pub term : Term
   pub read : readTerm (drop at ws) ≡ some (term, drop e ws)

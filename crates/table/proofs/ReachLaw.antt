@@ -7,7 +7,7 @@ use native.Mathlib.Omega.{arith}
 use lib.IntN.{ℤ, pos}
 use lib.ListN.{length, drop, getD, replicate, length-drop, replicate-append-replicate}
 use Rattle.minuska.specs.Computed.Read.{maxChildren}
-use Rattle.table.specs.declared.node.Level.{Level}
+use Rattle.table.specs.Level.{Level}
 use Rattle.table.specs.declared.node.Node.{Node}
 use Rattle.table.specs.Below.{Below}
 use Rattle.table.specs.Below as B

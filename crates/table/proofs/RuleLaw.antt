@@ -7,25 +7,29 @@ use Prim.Native.Nat.{ℕ, _+_, _≤_, _<_}
 use native.Mathlib.Omega.{arith}
 use lib.Dec.{T, leb, ltb, le→leb, lt→ltb}
 use lib.IntN.{ℤ, pos}
-use lib.ListN.{length, drop, getD, replicate, length-drop}
+use lib.ListN.{length, drop, getD, replicate, length-append, length-drop}
 use Rattle.minuska.specs.Basics.{_>>=_, provided, every}
 use Rattle.minuska.specs.Term.{Term, single, nodeCount}
 use Rattle.minuska.specs.Word.{ok, encode}
 use Rattle.minuska.specs.Satisfaction.{SideCondition}
 use Rattle.minuska.specs.Rule.{Rule, isSymbolic, isExpressionTerm, covers, okTerm, okCondition, okRule}
 use Rattle.minuska.specs.Computed.Read.{numberBelow, readTerm, readConditions, readRule}
-use Rattle.minuska.specs.Bridge.Place.{rightFrom, conditionsFrom, endFrom, rightWords, conditionsWords}
+use Rattle.minuska.specs.Bridge.Place.{Stands, rightFrom, conditionsFrom, endFrom, rightWords, conditionsWords}
 use Rattle.minuska.proofs.Tests.{and-both, provided-some, provided-true}
-use Rattle.minuska.proofs.Good.{good}
-use Rattle.table.specs.declared.node.Level.the-variants.{Left, Right}
+use Rattle.minuska.proofs.Good.{good, good-term}
+use Rattle.minuska.proofs.SpanLaw.{read-term-iff}
+use Rattle.minuska.proofs.Bridge.PlaceLaw.{stands-of}
+use Rattle.table.specs.Level.{Left, Right}
 use Rattle.table.specs.Number.{naturalOf}
 use Rattle.table.specs.Walk.{partEnd, partSeen}
+use Rattle.table.specs.Size.{Counts}
 use Rattle.table.specs.Rule.{conditionsEnd, RuleAt}
 use Rattle.minuska.specs.Bridge.Place.{leftFrom}
 use Rattle.table.proofs.BasicLaw.{none-after, refused}
 use Rattle.table.proofs.NumberLaw.{below-not, below-yes}
 use Rattle.table.proofs.TurnLaw.{two-words}
 use Rattle.table.proofs.PartLaw.{part-found, part-missed}
+use Rattle.table.proofs.SizeLaw.{counted}
 use Rattle.table.proofs.TestLaw.{Knows, marks, scan-left, knows-left}
 use Rattle.table.proofs.ConditionLaw.{Passed, passed, not-passed, conditions-found, conditions-missed}
 
@@ -170,9 +174,18 @@ module _ (ws : List ℤ) (at k : ℕ) (head : Head ws at k) where
           refused (okRule (ruleOf n (l .term) (r .term) (cs .0))) (ruleOf n (l .term) (r .term) (cs .0), cs .1) (λ x.
           conditions-missed ws (partSeen ws (leftFrom at) Left unseen) (l .term) (l .knows) k conditions h cs g (good (ruleOf n (l .term) (r .term) (cs .0)) x .conditions)))
 
-      pub rule-good : (end : ℕ) → conditionsEnd k ws (partSeen ws (leftFrom at) Left unseen) conditions ≡ some end → RuleAt ws at right conditions end
+      right-stands : Stands ws right (encode (single (the-right .term)))
+      right-stands =
+          let t = encode (single (the-right .term)) in
+          let e = read-term-iff (drop right ws) (the-right .term) (drop conditions ws) .0 (the-right .read) .1 in
+          let m = ap length e in
+          let j = length-append t (drop conditions ws) in
+          let i = length-drop right ws in
+          stands-of t (drop conditions ws) (sym e) (omega arith)
+
+      pub rule-good : (end : ℕ) → conditionsEnd k ws (partSeen ws (leftFrom at) Left unseen) conditions ≡ some end → (fixed leaves : ℕ) → Counts ws right 1 conditions 0 fixed leaves → RuleAt ws at right conditions end fixed leaves
       unfolding n
-      rule-good end h =
+      rule-good end h fixed leaves sized =
           let l = the-left in
           let r = the-right in
           let c = conditions-found ws (partSeen ws (leftFrom at) Left unseen) (l .term) (l .knows) k conditions end h in
@@ -187,4 +200,6 @@ module _ (ws : List ℤ) (at k : ℕ) (head : Head ws at k) where
           let a : rightFrom at rule ≡ right = sym p in
           let b : conditionsFrom at rule ≡ conditions = ap (λ (m : ℕ). m + length (rightWords rule)) a ∙ sym q in
           let z : endFrom at rule ≡ end = ap (λ (m : ℕ). m + length (conditionsWords rule)) b ∙ sym s in
-          record { rule = rule; read = e; rightIs = a; conditionsIs = b; endIs = z }
+          let y = good-term (r .term) (r .okay) in
+          let w = counted ws right conditions fixed leaves sized (r .term) (y .inRange) right-stands in
+          record { rule = rule; read = e; rightIs = a; conditionsIs = b; endIs = z; fixedIs = w .0; leavesIs = w .1 }

@@ -14,8 +14,7 @@ use Rattle.minuska.specs.Term.{Label, Forest, nil, node, termCount, Role, aVari
 use Rattle.minuska.specs.Word.{okHead, ok, encode, tagWord, datumWord}
 use Rattle.minuska.proofs.NodeLaw.{NodeIs, node-is}
 use Rattle.minuska.proofs.WordLaw.{okay, head-okay, read-node}
-use Rattle.table.specs.declared.node.Level.{Level}
-use Rattle.table.specs.declared.node.Level.the-variants.{Expression}
+use Rattle.table.specs.Level.{Level, Expression}
 use Rattle.table.specs.Below.{Below}
 use Rattle.table.specs.Below as B
 use Rattle.table.specs.Node.{takesCall, takesVariable, underPlain, flags, nodeAs, nodeIn, nodeOf, admitNode, flagNode, admitted, seenAfter}

@@ -15,8 +15,7 @@ use Rattle.minuska.specs.Word.{variables, tagWord, datumWord, okNode, ok}
 use Rattle.minuska.specs.Rule.{symbolicAt, isSymbolic, expressionAt, isExpression, isExpressionTerm, occursAt, occurs, coversAt, covers}
 use Rattle.minuska.proofs.NodeLaw.{NodeIs, node-is}
 use Rattle.minuska.proofs.WordLaw.{okay, head-okay, childless}
-use Rattle.table.specs.declared.node.Level.{Level}
-use Rattle.table.specs.declared.node.Level.the-variants.{Left, Right, Expression, Ground}
+use Rattle.table.specs.Level.{Level, Left, Right, Expression, Ground}
 use Rattle.table.proofs.ScanLaw.{passes, below, flagged, scan}
 
 -- ---- tests one after another

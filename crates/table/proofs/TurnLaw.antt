@@ -1,4 +1,4 @@
--- The walk at a place where no term is to come, or too few words are left; and what `part_end` answers.
+-- The walk at a place where no term is to come, or too few words are left; and what is answered of a term.
 use mathlib.Core.Path.{_≡_, refl, sym, _∙_, ap, subst}
 use mathlib.Core.Bool.{Bool}
 use mathlib.Core.Option.{Option, none, some}
@@ -11,7 +11,7 @@ use lib.Seq.{drop-cons}
 use borrow.Author.Tests.{le-leb, lt-leb}
 use Rattle.minuska.specs.Basics.{provided}
 use Rattle.term.specs.declared.Place.the-variants as P
-use Rattle.table.specs.declared.node.Level.{Level}
+use Rattle.table.specs.Level.{Level}
 use Rattle.table.specs.Walk.{Walked, walk, within, placed, partWalk, PartContract}
 
 -- ---- the words at a place
@@ -31,7 +31,7 @@ walk-done [] at seen = refl
 walk-done (t ∷ []) at seen = refl
 walk-done (t ∷ d ∷ ws) at seen = refl
 
--- ---- what `part_end` answers
+-- ---- what is answered of a term
 module _ (ws : List ℤ) (at : ℕ) (kind : Level) (seen seen′ : List Bool) where
   ends : (o : Option ℕ) → partWalk ws at kind seen ≡ record { end = o; seen = seen′ } → PartContract ws at kind seen seen′ (placed (within at o))
   ends o e = record { answer = sym (ap (λ (w : Walked). placed (within at (w .end))) e); leaves = sym (ap (λ (w : Walked). w .seen) e) }

@@ -39,13 +39,13 @@ pub record NumberIs (index : List ℕ) (rule column r : ℕ) : Type 0 where
   pub is : r ≡ getD index (perRule * rule + column) 0
   pub small : r < 65536
 
--- the row of a rule that starts at a place, as it is written: from where its parts stand and from the table's words
-abbrev pub rowOf : List ℤ → ℕ → ℕ → ℕ → ℕ → List ℕ
-rowOf ws at right conditions end =
-    (leftFrom at - firstRule) ∷ (right - firstRule) ∷ (conditions - firstRule) ∷ (end - firstRule) ∷ keyOf (getD ws (leftFrom at) (pos 0)) (getD ws (leftFrom at + 1) (pos 0)) ∷ naturalOf (getD ws at (pos 0)) ∷ []
+-- the row of a rule that starts at a place, as it is written: from where its parts stand, the sizes of its right and the table's words
+abbrev pub rowOf : List ℤ → ℕ → ℕ → ℕ → ℕ → ℕ → ℕ → List ℕ
+rowOf ws at right conditions end fixed leaves =
+    (leftFrom at - firstRule) ∷ (right - firstRule) ∷ (conditions - firstRule) ∷ (end - firstRule) ∷ keyOf (getD ws (leftFrom at) (pos 0)) (getD ws (leftFrom at + 1) (pos 0)) ∷ naturalOf (getD ws at (pos 0)) ∷ fixed ∷ leaves ∷ []
 
 -- its numbers are small
-pub record RowFits (ws : List ℤ) (at right conditions end : ℕ) : Type 0 where
+pub record RowFits (ws : List ℤ) (at right conditions end fixed leaves : ℕ) : Type 0 where
   pub root : leftFrom at + 2 ≤ length ws
   pub rightAfter : leftFrom at ≤ right
   pub conditionsAfter : right ≤ conditions
@@ -53,6 +53,8 @@ pub record RowFits (ws : List ℤ) (at right conditions end : ℕ) : Type 0 wher
   pub endFits : end ≤ 65536
   pub short : length ws ≤ 65536
   pub action : naturalOf (getD ws at (pos 0)) < 65536
+  pub ones : fixed < 65536
+  pub variables : leaves < 65536
 
 -- The answer; the index afterwards, for every answer: the places of the rules that were accepted, the numbers behind them keep.
 pub record IndexTableContract (table : List ℤ) (index index′ : List ℕ) (r : Check) : Type 0 where

@@ -1,7 +1,9 @@
 pub mod Number
+pub mod Level
 pub mod Below
 pub mod Node
 pub mod Walk
 pub mod Reach
+pub mod Size
 pub mod Rule
 pub mod Index

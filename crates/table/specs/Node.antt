@@ -8,8 +8,7 @@ use lib.IntN.{ℤ}
 use lib.ListN.{getD, set}
 use Rattle.minuska.specs.Term.{Label, Role, aVariable, aCall, plain, role}
 use Rattle.minuska.specs.Computed.Read.{readNode}
-use Rattle.table.specs.declared.node.Level.{Level}
-use Rattle.table.specs.declared.node.Level.the-variants.{Left, Right, Expression, Ground}
+use Rattle.table.specs.Level.{Level, Left, Right, Expression, Ground}
 use Rattle.table.specs.declared.node.Node.{Node}
 use Rattle.table.specs.declared.node.Node.the-variants as N
 use Rattle.table.specs.Below.{Below}

@@ -9,7 +9,7 @@ use lib.ListN.{length, drop, replicate}
 use Rattle.minuska.specs.Computed.Read.{maxChildren}
 use Rattle.term.specs.declared.Place.{Place}
 use Rattle.term.specs.declared.Place.the-variants as P
-use Rattle.table.specs.declared.node.Level.{Level}
+use Rattle.table.specs.Level.{Level}
 use Rattle.table.specs.declared.node.Turn.{Turn}
 use Rattle.table.specs.declared.node.Turn.the-variants as U
 use Rattle.table.specs.Walk.{walk}

@@ -10,8 +10,7 @@ use lib.ListN.{drop, replicate}
 use Rattle.minuska.specs.Basics.{_>>=_, provided}
 use Rattle.term.specs.declared.Place.{Place}
 use Rattle.term.specs.declared.Place.the-variants as P
-use Rattle.table.specs.declared.node.Level.{Level}
-use Rattle.table.specs.declared.node.Level.the-variants.{Left, Right, Expression, Ground}
+use Rattle.table.specs.Level.{Level}
 use Rattle.table.specs.Below.{Below}
 use Rattle.table.specs.Below as B
 use Rattle.table.specs.Node.{admitted, seenAfter}

@@ -10,7 +10,7 @@ ghost use Prim.Native.Nat.{_≤_};
 ghost use lib.ListN.{length};
 ghost use Rattle.minuska.specs.Computed.Read.{maxChildren};
 ghost use Rattle.term.specs.Datum.{groundRanges};
-ghost use Rattle.table.specs.declared.node.Level.the-variants.{Expression};
+ghost use Rattle.table.specs.Level.{Expression};
 ghost use Rattle.table.specs.Reach.{EndIs, TurnIs};
 
 // One expression's first node, with the ground terms below it. A call's arguments are expressions still to come.

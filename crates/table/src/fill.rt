@@ -34,10 +34,20 @@ pub fn fill(table: &[i64], index: &mut [u16], ranges: &[i64; 32]) -> Check
     let mut at = FIRST_RULE;
     let mut rule: usize = 0;
     while rule < count {
-        let Parts::At(right, conditions, end) = rule_parts(table, at, ranges) else {
+        let Parts::At(right, conditions, end, fixed, leaves) = rule_parts(table, at, ranges) else {
             return Check::Refused(Refusal::BadTable);
         };
-        put(table, index, rule, at, right, conditions, end);
+        put(
+            table,
+            index,
+            rule,
+            at,
+            right,
+            conditions,
+            end,
+            fixed,
+            leaves,
+        );
         at = end;
         rule += 1;
     }

@@ -10,14 +10,6 @@ ghost use Rattle.minuska.specs.Word.{variables};
 ghost use Rattle.term.specs.Datum.{groundRanges};
 ghost use Rattle.table.specs.Node.{nodeOf, sideLevel, TakesVariable};
 
-// What may stand at a node.
-pub enum Level {
-    Left,
-    Right,
-    Expression,
-    Ground,
-}
-
 // A node in range, with its child count; a variable's number.
 pub enum Node {
     Plain(usize),

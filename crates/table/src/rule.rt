@@ -1,18 +1,20 @@
 // One rule of a table: where its parts stand, if it is accepted.
 use crate::index::HEADER;
-use crate::node::Level;
 use crate::number::natural;
-use crate::walk::part_end;
+use crate::side::Sized;
+use crate::walk::expression_part;
+use crate::walk::side_part;
 use minuska::limits::MAX_ACTION;
 use minuska::limits::MAX_CONDITIONS;
 use term::Place;
 ghost use mathlib.Core.Path.{_≡_};
 ghost use Rattle.term.specs.Datum.{groundRanges};
-ghost use Rattle.table.specs.Rule.{ConditionsContract, RuleIs};
+ghost use Rattle.table.specs.Walk.{placed};
+ghost use Rattle.table.specs.Rule.{conditionsEnd, RuleIs};
 
-// The starts of a rule's right and of its conditions, and its end.
+// The starts of a rule's right and of its conditions, and its end; the sizes of its right.
 pub enum Parts {
-    At(usize, usize, usize),
+    At(usize, usize, usize, usize, usize),
     Nowhere,
 }
 
@@ -21,19 +23,19 @@ fn conditions_end(
     table: &[i64],
     at: usize,
     count: usize,
-    seen: &mut [bool; 16],
+    seen: &[bool; 16],
     ranges: &[i64; 32],
 ) -> Place
     requires { ⌜ now ranges ≡ groundRanges ⌝ }
-    ensures { λ r. ⌜ ConditionsContract (now (table .entry)) at count (now (seen .entry)) (now (seen .exit)) r ⌝ }
+    ensures { λ r. ⌜ r ≡ placed (conditionsEnd count (now (table .entry)) (now (seen .entry)) at) ⌝ }
 {
     let mut i = at;
     let mut k = count;
     while 0 < k {
-        let Place::At(second) = part_end(table, i, Level::Expression, seen, ranges) else {
+        let Place::At(second) = expression_part(table, i, seen, ranges) else {
             return Place::Nowhere;
         };
-        let Place::At(end) = part_end(table, second, Level::Expression, seen, ranges) else {
+        let Place::At(end) = expression_part(table, second, seen, ranges) else {
             return Place::Nowhere;
         };
         i = end;
@@ -62,14 +64,15 @@ pub fn rule_parts(table: &[i64], at: usize, ranges: &[i64; 32]) -> Parts
         return Parts::Nowhere;
     }
     let mut seen = [false; 16];
-    let Place::At(right) = part_end(table, at + HEADER, Level::Left, &mut seen, ranges) else {
+    let Sized::At(right, _, _) = side_part(true, table, at + HEADER, &mut seen, ranges) else {
         return Parts::Nowhere;
     };
-    let Place::At(conditions) = part_end(table, right, Level::Right, &mut seen, ranges) else {
+    let Sized::At(conditions, fixed, leaves) = side_part(false, table, right, &mut seen, ranges)
+    else {
         return Parts::Nowhere;
     };
-    let Place::At(end) = conditions_end(table, conditions, count, &mut seen, ranges) else {
+    let Place::At(end) = conditions_end(table, conditions, count, &seen, ranges) else {
         return Parts::Nowhere;
     };
-    Parts::At(right, conditions, end)
+    Parts::At(right, conditions, end, fixed, leaves)
 }

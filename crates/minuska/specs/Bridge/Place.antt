@@ -95,7 +95,7 @@ abbrev pub firstRule : ℕ
 firstRule = 1
 
 abbrev pub perRule : ℕ
-perRule = 6
+perRule = 8
 
 -- room for 256 rules
 abbrev pub indexLength : ℕ
@@ -103,7 +103,7 @@ indexLength = 256 * perRule
 
 abbrev pub rulePlaces : ℕ → Rule → List ℕ
 rulePlaces at r =
-    (leftFrom at - firstRule) ∷ (rightFrom at r - firstRule) ∷ (conditionsFrom at r - firstRule) ∷ (endFrom at r - firstRule) ∷ rootKey (r .left) ∷ r .action ∷ []
+    (leftFrom at - firstRule) ∷ (rightFrom at r - firstRule) ∷ (conditionsFrom at r - firstRule) ∷ (endFrom at r - firstRule) ∷ rootKey (r .left) ∷ r .action ∷ fixedNodes (single (r .right)) ∷ variableNodes (single (r .right)) ∷ []
 
 abbrev pub placesFrom : ℕ → Table → List ℕ
 placesFrom at [] = []

@@ -9,7 +9,7 @@ use mir.Syntax.{w64}
 use mir.Val.{SFits}
 use Rattle.table.specs.Below as B
 use Rattle.table.specs.Node.{nodeOf}
-use Rattle.table.specs.declared.node.Level.the-variants.{Expression, Ground}
+use Rattle.table.specs.Level.{Expression, Ground}
 use Rattle.table.specs.declared.node.Node.{Node}
 use Rattle.table.specs.declared.node.Node.the-variants as N
 use Rattle.table.proofs.GroundLaw.{ground-reaches, ground-stops}

@@ -4,7 +4,7 @@ use Prim.Native.Nat.{_+_, _-_, _*_, _≤_}
 use native.Mathlib.Omega.{arith}
 use borrow.Author.Needs.{needs}
 use lib.ListN.{length}
-use Rattle.table.specs.declared.node.Level.the-variants.{Expression}
+use Rattle.table.specs.Level.{Expression}
 use Rattle.table.specs.declared.node.Turn.{Turn}
 use Rattle.table.specs.declared.node.Turn.the-variants as U
 use Rattle.table.specs.Reach.{Reaches, Stops, TurnOn, TurnIs}

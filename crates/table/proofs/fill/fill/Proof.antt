@@ -79,7 +79,7 @@ put-requires c κs =
     let h = c .before .before .before .before .before .loop-test .taken in
     let t = c .before .before .right in
     let ws = c .before .before .before .before .before .before .before .before .before .before .before .before .before .args .table .now in
-    (omega arith, row-fits ws (l .at) (t .given .0 .0) (t .given .0 .1 .0) (t .given .0 .1 .1 .0) (subst (RuleIs ws (l .at)) (t .given .1) (c .before .before .before .before .rule-parts .ensures)) (r .short))
+    (omega arith, row-fits ws (l .at) (t .given .0 .0) (t .given .0 .1 .0) (t .given .0 .1 .1 .0) (t .given .0 .1 .1 .1 .0) (t .given .0 .1 .1 .1 .1 .0) (subst (RuleIs ws (l .at)) (t .given .1) (c .before .before .before .before .rule-parts .ensures)) (r .short))
 
 add-rule : tie.Need-add-rule Inv-loop μ-loop
 add-rule c = search needs
@@ -95,11 +95,13 @@ loop-again c =
     let right = c .before .before .before .before .before .right .given .0 .0 in
     let conditions = c .before .before .before .before .before .right .given .0 .1 .0 in
     let end = c .before .before .before .before .before .right .given .0 .1 .1 .0 in
+    let fixed = c .before .before .before .before .before .right .given .0 .1 .1 .1 .0 in
+    let leaves = c .before .before .before .before .before .right .given .0 .1 .1 .1 .1 .0 in
     let count = c .before .before .before .before .before .before .before .before .before .before .before .natural .result in
     let e = c .before .before .put .ensures in (
-      ap length e ∙ (length-sets (l .index) (perRule * l .rule) (rowOf ws (l .at) right conditions end) ∙ l .inv .0),
+      ap length e ∙ (length-sets (l .index) (perRule * l .rule) (rowOf ws (l .at) right conditions end fixed leaves) ∙ l .inv .0),
       subst⁻¹ (λ (x : List ℕ). Reached ws old x count (l .rule + 1) end) e
-          (goes-on ws old (l .index) count (l .rule) (l .at) (l .inv .1) (c .before .before .before .before .before .before .before .before .loop-test .taken) right conditions end (subst (RuleIs ws (l .at)) (c .before .before .before .before .before .right .given .1) (c .before .before .before .before .before .before .before .rule-parts .ensures))),
+          (goes-on ws old (l .index) count (l .rule) (l .at) (l .inv .1) (c .before .before .before .before .before .before .before .before .loop-test .taken) right conditions end fixed leaves (subst (RuleIs ws (l .at)) (c .before .before .before .before .before .right .given .1) (c .before .before .before .before .before .before .before .rule-parts .ensures))),
     )
 
 same-length-2 : tie.Need-same-length-2 Inv-loop μ-loop

@@ -64,6 +64,12 @@ cast-store c =
     let h = n .before .before .before .before .before .before .pre .1 .action in
     omega arith
 
+cast-store-2 : tie.Need-cast-store-2
+cast-store-2 c = let h = c .before .before .before .before .before .before .before .before .before .before .before .pre .1 .ones in omega arith
+
+cast-store-3 : tie.Need-cast-store-3
+cast-store-3 c = let h = c .before .before .before .before .before .before .before .before .before .before .before .pre .1 .variables in omega arith
+
 store-requires : tie.Need-store-requires
 store-requires c κs = search needs
 
@@ -76,7 +82,7 @@ returns c =
     let p = w .before in
     let n = p .before .before .before .before .before in
     let s = n .before .before .before .before .before .before in
-    w .store .ensures ∙ (ap₂ (λ (k a : ℕ). sets (s .args .index .now) (perRule * s .args .rule) (p .before .before .before .placed .result ∷ p .before .before .placed2 .result ∷ p .before .placed3 .result ∷ p .placed4 .result ∷ k ∷ a ∷ [])) (key-is (n .before .before)) (action-is n) ∙
+    w .store .ensures ∙ (ap₂ (λ (k a : ℕ). sets (s .args .index .now) (perRule * s .args .rule) (p .before .before .before .placed .result ∷ p .before .before .placed2 .result ∷ p .before .placed3 .result ∷ p .placed4 .result ∷ k ∷ a ∷ s .args .fixed ∷ s .args .leaves ∷ [])) (key-is (n .before .before)) (action-is n) ∙
     rw (p .before .before .before .placed .ensures, p .before .before .placed2 .ensures, p .before .placed3 .ensures, p .placed4 .ensures) refl)
 
 pub put-spec : {M : Type 1} → statement M
@@ -95,6 +101,8 @@ put-spec =
     placed-requires-3
     placed-requires-4
     cast-store
+    cast-store-2
+    cast-store-3
     store-requires
     same-length
     returns)

@@ -62,6 +62,24 @@ mul-index-6 c = search needs
 slice-write-index-6 : tie.Need-slice-write-index-6
 slice-write-index-6 c = simp length-set (omega arith)
 
+add-index-7 : tie.Need-add-index-7
+add-index-7 c = search needs
+
+mul-index-7 : tie.Need-mul-index-7
+mul-index-7 c = search needs
+
+slice-write-index-7 : tie.Need-slice-write-index-7
+slice-write-index-7 c = simp length-set (omega arith)
+
+add-index-8 : tie.Need-add-index-8
+add-index-8 c = search needs
+
+mul-index-8 : tie.Need-mul-index-8
+mul-index-8 c = search needs
+
+slice-write-index-8 : tie.Need-slice-write-index-8
+slice-write-index-8 c = simp length-set (omega arith)
+
 same-length : tie.Need-same-length
 same-length c = search needs
 
@@ -91,5 +109,11 @@ store-spec =
     add-index-6
     mul-index-6
     slice-write-index-6
+    add-index-7
+    mul-index-7
+    slice-write-index-7
+    add-index-8
+    mul-index-8
+    slice-write-index-8
     same-length
     returns)

@@ -8,9 +8,10 @@ use lib.IntN.{pos}
 use lib.ListN.{length, getD}
 use mir.Val.{SFits}
 use mir.Syntax.{w64}
-use Rattle.table.specs.declared.node.Level.the-variants.{Left, Right}
+use Rattle.table.specs.Level.{Left, Right}
 use Rattle.table.specs.Number.{naturalOf}
 use Rattle.table.specs.Walk.{placed, partEnd, partSeen, PartContract}
+use Rattle.table.specs.Size.{placeOf}
 use Rattle.table.specs.Rule.{conditionsEnd}
 use Rattle.minuska.specs.Bridge.Place.{leftFrom}
 use Rattle.table.proofs.NumberLaw.{via}
@@ -39,25 +40,25 @@ head c =
     (rule-head (c .before .before .before .before .before .before .before .before .args .table .now) (c .before .before .before .before .before .before .before .before .args .at) (room (c .before .before .before .before .before .before)) (c .before .before .before .before .before .word .result) (c .before .before .word2 .result) (c .before .before .before .before .before .word .ensures) (c .before .before .word2 .ensures) (omega arith) (omega arith))
 
 -- the left, and the flags after it
-left-contract : (c : tie.After-part-end) → PartContract (c .before .before .before .before .before .before .before .before .before .before .args .table .now) (leftFrom (c .before .before .before .before .before .before .before .before .before .before .args .at)) Left unseen (c .part-end .last .1 .1 .1 .0) (c .part-end .result)
-left-contract c = c .part-end .ensures
+left-contract : (c : tie.After-side-part) → PartContract (c .before .before .before .before .before .before .before .before .before .before .args .table .now) (leftFrom (c .before .before .before .before .before .before .before .before .before .before .args .at)) Left unseen (c .side-part .last .1 .1 .1 .0) (placeOf (c .side-part .result))
+left-contract c = c .side-part .ensures .part
 
 left-at : (c : tie.After-known-told) → partEnd (c .before .before .before .before .before .before .before .before .before .before .before .before .before .args .table .now) (leftFrom (c .before .before .before .before .before .before .before .before .before .before .before .before .before .args .at)) Left unseen ≡ some (c .before .right .given .0 .0)
-left-at c = placed-at (c .before .right .given .0 .0) (partEnd (c .before .before .before .before .before .before .before .before .before .before .before .before .before .args .table .now) (leftFrom (c .before .before .before .before .before .before .before .before .before .before .before .before .before .args .at)) Left unseen) (sym (c .before .right .given .1) ∙ left-contract (c .before .before .before) .answer)
+left-at c = placed-at (c .before .right .given .0 .0) (partEnd (c .before .before .before .before .before .before .before .before .before .before .before .before .before .args .table .now) (leftFrom (c .before .before .before .before .before .before .before .before .before .before .before .before .before .args .at)) Left unseen) (sym (ap placeOf (c .before .right .given .1)) ∙ left-contract (c .before .before .before) .answer)
 
 -- the right, by these flags, which it keeps
-right-is : (c : tie.After-part-end2) → c .part-end2 .result ≡ placed (partEnd (c .before .before .before .before .before .before .before .before .before .before .before .before .before .before .before .args .table .now) (c .before .before .before .right .given .0 .0) Right (partSeen (c .before .before .before .before .before .before .before .before .before .before .before .before .before .before .before .args .table .now) (leftFrom (c .before .before .before .before .before .before .before .before .before .before .before .before .before .before .before .args .at)) Left unseen))
-right-is c = c .part-end2 .ensures .answer ∙ ap (λ (s : List Bool). placed (partEnd (c .before .before .before .before .before .before .before .before .before .before .before .before .before .before .before .args .table .now) (c .before .before .before .right .given .0 .0) Right s)) (left-contract (c .before .before .before .before .before) .leaves)
+right-is : (c : tie.After-side-part2) → placeOf (c .side-part2 .result) ≡ placed (partEnd (c .before .before .before .before .before .before .before .before .before .before .before .before .before .before .before .args .table .now) (c .before .before .before .right .given .0 .0) Right (partSeen (c .before .before .before .before .before .before .before .before .before .before .before .before .before .before .before .args .table .now) (leftFrom (c .before .before .before .before .before .before .before .before .before .before .before .before .before .before .before .args .at)) Left unseen))
+right-is c = c .side-part2 .ensures .part .answer ∙ ap (λ (s : List Bool). placed (partEnd (c .before .before .before .before .before .before .before .before .before .before .before .before .before .before .before .args .table .now) (c .before .before .before .right .given .0 .0) Right s)) (left-contract (c .before .before .before .before .before) .leaves)
 
 right-at : (c : tie.After-known-told2) → partEnd (c .before .before .before .before .before .before .before .before .before .before .before .before .before .before .before .before .before .before .args .table .now) (c .before .before .before .before .before .before .right .given .0 .0) Right (partSeen (c .before .before .before .before .before .before .before .before .before .before .before .before .before .before .before .before .before .before .args .table .now) (leftFrom (c .before .before .before .before .before .before .before .before .before .before .before .before .before .before .before .before .before .before .args .at)) Left unseen) ≡ some (c .before .conditions .given .0 .0)
-right-at c = placed-at (c .before .conditions .given .0 .0) (partEnd (c .before .before .before .before .before .before .before .before .before .before .before .before .before .before .before .before .before .before .args .table .now) (c .before .before .before .before .before .before .right .given .0 .0) Right (partSeen (c .before .before .before .before .before .before .before .before .before .before .before .before .before .before .before .before .before .before .args .table .now) (leftFrom (c .before .before .before .before .before .before .before .before .before .before .before .before .before .before .before .before .before .before .args .at)) Left unseen)) (sym (c .before .conditions .given .1) ∙ right-is (c .before .before .before))
+right-at c = placed-at (c .before .conditions .given .0 .0) (partEnd (c .before .before .before .before .before .before .before .before .before .before .before .before .before .before .before .before .before .before .args .table .now) (c .before .before .before .before .before .before .right .given .0 .0) Right (partSeen (c .before .before .before .before .before .before .before .before .before .before .before .before .before .before .before .before .before .before .args .table .now) (leftFrom (c .before .before .before .before .before .before .before .before .before .before .before .before .before .before .before .before .before .before .args .at)) Left unseen)) (sym (ap placeOf (c .before .conditions .given .1)) ∙ right-is (c .before .before .before))
 
-kept : (c : tie.After-part-end2) → c .part-end2 .last .1 .1 .1 .0 ≡ partSeen (c .before .before .before .before .before .before .before .before .before .before .before .before .before .before .before .args .table .now) (leftFrom (c .before .before .before .before .before .before .before .before .before .before .before .before .before .before .before .args .at)) Left unseen
-kept c = c .part-end2 .ensures .leaves ∙ (part-keeps (c .before .before .before .before .before .before .before .before .before .before .before .before .before .before .before .args .table .now) (c .before .before .before .right .given .0 .0) Right (c .before .before .before .before .before .part-end .last .1 .1 .1 .0) tt ∙ left-contract (c .before .before .before .before .before) .leaves)
+kept : (c : tie.After-side-part2) → c .side-part2 .last .1 .1 .1 .0 ≡ partSeen (c .before .before .before .before .before .before .before .before .before .before .before .before .before .before .before .args .table .now) (leftFrom (c .before .before .before .before .before .before .before .before .before .before .before .before .before .before .before .args .at)) Left unseen
+kept c = c .side-part2 .ensures .part .leaves ∙ (part-keeps (c .before .before .before .before .before .before .before .before .before .before .before .before .before .before .before .args .table .now) (c .before .before .before .right .given .0 .0) Right (c .before .before .before .before .before .side-part .last .1 .1 .1 .0) tt ∙ left-contract (c .before .before .before .before .before) .leaves)
 
 -- the conditions
 conditions-are : (c : tie.After-conditions-end) → c .conditions-end .result ≡ placed (conditionsEnd (c .before .before .before .before .before .before .before .before .before .before .before .before .before .natural2 .result) (c .before .before .before .before .before .before .before .before .before .before .before .before .before .before .before .before .before .before .before .before .args .table .now) (partSeen (c .before .before .before .before .before .before .before .before .before .before .before .before .before .before .before .before .before .before .before .before .args .table .now) (leftFrom (c .before .before .before .before .before .before .before .before .before .before .before .before .before .before .before .before .before .before .before .before .args .at)) Left unseen) (c .before .before .before .conditions .given .0 .0))
-conditions-are c = c .conditions-end .ensures .answer ∙ ap (λ (s : List Bool). placed (conditionsEnd (c .before .before .before .before .before .before .before .before .before .before .before .before .before .natural2 .result) (c .before .before .before .before .before .before .before .before .before .before .before .before .before .before .before .before .before .before .before .before .args .table .now) s (c .before .before .before .conditions .given .0 .0))) (kept (c .before .before .before .before .before))
+conditions-are c = c .conditions-end .ensures ∙ ap (λ (s : List Bool). placed (conditionsEnd (c .before .before .before .before .before .before .before .before .before .before .before .before .before .natural2 .result) (c .before .before .before .before .before .before .before .before .before .before .before .before .before .before .before .before .before .before .before .before .args .table .now) s (c .before .before .before .conditions .given .0 .0))) (kept (c .before .before .before .before .before))
 
 returns : tie.Need-returns
 returns c = rule-short (c .before .args .table .now) (c .before .args .at) (omega arith)
@@ -91,11 +92,11 @@ returns-4 c =
     let q = second-number (c .before) in
     rule-count (c .before .before .before .before .before .before .before .before .args .table .now) (c .before .before .before .before .before .before .before .before .args .at) (room (c .before .before .before .before .before .before)) (c .before .before .before .before .before .word .result) (c .before .before .word2 .result) (c .before .before .before .before .before .word .ensures) (c .before .before .word2 .ensures) (omega arith) (omega arith)
 
-add-part-end : tie.Need-add-part-end
-add-part-end c = search needs
+add-side-part : tie.Need-add-side-part
+add-side-part c = search needs
 
-part-end-requires : tie.Need-part-end-requires
-part-end-requires c κs = search needs
+side-part-requires : tie.Need-side-part-requires
+side-part-requires c κs = search needs
 
 enum-known-right : tie.Need-enum-known-right
 enum-known-right c = search needs
@@ -107,10 +108,10 @@ returns-5 : tie.Need-returns-5
 returns-5 c =
     let ws = c .before .before .before .before .before .before .before .before .before .before .before .before .args .table .now in
     let at = c .before .before .before .before .before .before .before .before .before .before .before .before .args .at in
-    rule-left ws at (c .before .before .before .before .before .natural2 .result) (head (c .before .before .before .before)) (placed-nowhere (partEnd ws (leftFrom at) Left unseen) (sym (c .enum-told .given .1) ∙ left-contract (c .before .before) .answer))
+    rule-left ws at (c .before .before .before .before .before .natural2 .result) (head (c .before .before .before .before)) (placed-nowhere (partEnd ws (leftFrom at) Left unseen) (sym (ap placeOf (c .enum-told .given .1)) ∙ left-contract (c .before .before) .answer))
 
-part-end-requires-2 : tie.Need-part-end-requires-2
-part-end-requires-2 c κs = search needs
+side-part-requires-2 : tie.Need-side-part-requires-2
+side-part-requires-2 c κs = search needs
 
 enum-known-conditions : tie.Need-enum-known-conditions
 enum-known-conditions c = search needs
@@ -124,7 +125,7 @@ returns-6 c =
     let at = c .before .before .before .before .before .before .before .before .before .before .before .before .before .before .before .before .before .args .at in
     let right = c .before .before .before .before .before .right .given .0 .0 in
     rule-right ws at (c .before .before .before .before .before .before .before .before .before .before .natural2 .result) (head (c .before .before .before .before .before .before .before .before .before)) right (left-at (c .before .before .before .before))
-    (placed-nowhere (partEnd ws right Right (partSeen ws (leftFrom at) Left unseen)) (sym (c .enum-told2 .given .1) ∙ right-is (c .before .before)))
+    (placed-nowhere (partEnd ws right Right (partSeen ws (leftFrom at) Left unseen)) (sym (ap placeOf (c .enum-told2 .given .1)) ∙ right-is (c .before .before)))
 
 conditions-end-requires : tie.Need-conditions-end-requires
 conditions-end-requires c κs = search needs
@@ -151,8 +152,10 @@ returns-8 c =
     let count = c .before .before .before .before .before .before .before .before .before .before .before .before .before .before .before .before .natural2 .result in
     let conditions = c .before .before .before .before .before .before .conditions .given .0 .0 in
     let end = c .before .end .given .0 .0 in
+    let g = c .before .before .before .before .before .before .conditions .given in
     rule-good ws at count (head (c .before .before .before .before .before .before .before .before .before .before .before .before .before .before .before)) (c .before .before .before .before .before .before .before .before .before .before .before .right .given .0 .0) (left-at (c .before .before .before .before .before .before .before .before .before .before)) conditions (right-at (c .before .before .before .before .before)) end
     (placed-at end (conditionsEnd count ws (partSeen ws (leftFrom at) Left unseen) conditions) (sym (c .before .end .given .1) ∙ conditions-are (c .before .before .before)))
+    (g .0 .1 .0) (g .0 .1 .1 .0) (c .before .before .before .before .before .before .before .before .side-part2 .ensures .sizes conditions (g .0 .1 .0) (g .0 .1 .1 .0) (g .1))
 
 pub rule-parts-spec : {M : Type 1} → statement M
 rule-parts-spec =
@@ -167,12 +170,12 @@ rule-parts-spec =
     word-requires-2
     natural-requires-2
     returns-4
-    add-part-end
-    part-end-requires
+    add-side-part
+    side-part-requires
     enum-known-right
     enum-told
     returns-5
-    part-end-requires-2
+    side-part-requires-2
     enum-known-conditions
     enum-told-2
     returns-6

@@ -11,14 +11,14 @@ use mir.Val.{SFits}
 use Rattle.term.specs.declared.Place.{Place}
 use Rattle.table.specs.Below as B
 use Rattle.table.specs.Node.{nodeOf, sideLevel, takesCall, underPlain}
-use Rattle.table.specs.Reach.{EndIs, Stops, TurnOn}
-use Rattle.table.specs.declared.node.Level.{Level}
-use Rattle.table.specs.declared.node.Level.the-variants.{Expression}
+use Rattle.table.specs.Reach.{Reaches, EndIs, Stops, TurnOn}
+use Rattle.table.specs.Level.{Level, Expression}
 use Rattle.table.specs.declared.node.Node.{Node}
 use Rattle.table.specs.declared.node.Node.the-variants as N
 use Rattle.table.proofs.NodeLaw.{number-small}
 use Rattle.table.proofs.NumberLaw.{via₂}
 use Rattle.table.proofs.ReachLaw.{turn-short, turn-refused, turn-few, turn-below, turn-below-stops, turn-children}
+use Rattle.table.proofs.SizeLaw.{plain-counts, call-counts, variable-counts}
 use Rattle.table.proofs.side.side_turn.Statement.{statement}
 use Rattle.table.proofs.side.side_turn.Tie as tie
 
@@ -122,7 +122,12 @@ returns-4 c =
     let u = c .before .before .before in
     let a = u .before .before .before .before .args in
     let k = c .before .k .given .0 .0 in
-    turn-children (a .table .now) (sideLevel (a .left)) (a .i) (a .seen .now) (room u) (u .before .before .word .result) (u .before .word2 .result) (u .before .before .word .ensures) (u .before .word2 .ensures) (N.Plain k) (node u (N.Plain k) (c .before .k .given .1)) k (ap (λ (l : Level). B.Are l k) (under-side (a .left)))
+    let n = node u (N.Plain k) (c .before .k .given .1) in
+    record {
+      turn = turn-children (a .table .now) (sideLevel (a .left)) (a .i) (a .seen .now) (room u) (u .before .before .word .result) (u .before .word2 .result) (u .before .before .word .ensures) (u .before .word2 .ensures) (N.Plain k) n k (ap (λ (l : Level). B.Are l k) (under-side (a .left)));
+      one = omega arith;
+      counts = plain-counts (a .table .now) (a .i) (u .before .before .word .result) (u .before .word2 .result) (u .before .before .word .ensures) (u .before .word2 .ensures) k n;
+    }
 
 returns-5 : tie.Need-returns-5
 returns-5 c =
@@ -131,8 +136,14 @@ returns-5 c =
     let u = v .before .before in
     let a = u .before .before .before .before .args in
     let k = v .k2 .given .0 .0 in
-    turn-below (a .table .now) (sideLevel (a .left)) (a .i) (a .seen .now) (room u) (u .before .before .word .result) (u .before .word2 .result) (u .before .before .word .ensures) (u .before .word2 .ensures) (N.Call k) (node u (N.Call k) (v .k2 .given .1)) Expression k (on-side k (a .left) false (w .before .if2 .left)) (c .before .e .given .0 .0) (a .seen .now)
-    (subst (EndIs (a .table .now) Expression (a .i + 2) k (a .seen .now) (a .seen .now)) (c .before .e .given .1) (c .before .before .before .expressions-end .ensures))
+    let e = c .before .e .given .0 .0 in
+    let n = node u (N.Call k) (v .k2 .given .1) in
+    let r : Reaches (a .table .now) Expression (a .i + 2) k (a .seen .now) e 0 (a .seen .now) = subst (EndIs (a .table .now) Expression (a .i + 2) k (a .seen .now) (a .seen .now)) (c .before .e .given .1) (c .before .before .before .expressions-end .ensures) in
+    record {
+      turn = turn-below (a .table .now) (sideLevel (a .left)) (a .i) (a .seen .now) (room u) (u .before .before .word .result) (u .before .word2 .result) (u .before .before .word .ensures) (u .before .word2 .ensures) (N.Call k) n Expression k (on-side k (a .left) false (w .before .if2 .left)) e (a .seen .now) r;
+      one = omega arith;
+      counts = call-counts (a .table .now) (a .i) (u .before .before .word .result) (u .before .word2 .result) (u .before .before .word .ensures) (u .before .word2 .ensures) k n e (a .seen .now) (a .seen .now) r;
+    }
 
 returns-6 : tie.Need-returns-6
 returns-6 c =
@@ -141,8 +152,13 @@ returns-6 c =
     let a = u .before .before .before .before .args in
     let v = w .before .before .before .v .given .0 .0 in
     let l = sideLevel (a .left) in
-    subst (λ (s : List Bool). TurnOn (a .table .now) (sideLevel (a .left)) (a .i) (a .seen .now) s (a .i + 2) 0) (sym (w .takes-variable .ensures .leaves))
-    (turn-children (a .table .now) (sideLevel (a .left)) (a .i) (a .seen .now) (room u) (u .before .before .word .result) (u .before .word2 .result) (u .before .before .word .ensures) (u .before .word2 .ensures) (N.Variable v) (node u (N.Variable v) (w .before .before .before .v .given .1)) 0 (ap (λ (b : Bool). cond b (B.Are l 0) B.Bad) (sym (w .takes-variable .ensures .answer) ∙ c .if3 .taken)))
+    let n = node u (N.Variable v) (w .before .before .before .v .given .1) in
+    record {
+      turn = subst (λ (s : List Bool). TurnOn (a .table .now) (sideLevel (a .left)) (a .i) (a .seen .now) s (a .i + 2) 0) (sym (w .takes-variable .ensures .leaves))
+          (turn-children (a .table .now) (sideLevel (a .left)) (a .i) (a .seen .now) (room u) (u .before .before .word .result) (u .before .word2 .result) (u .before .before .word .ensures) (u .before .word2 .ensures) (N.Variable v) n 0 (ap (λ (b : Bool). cond b (B.Are l 0) B.Bad) (sym (w .takes-variable .ensures .answer) ∙ c .if3 .taken)));
+      one = omega arith;
+      counts = variable-counts (a .table .now) (a .i) (u .before .before .word .result) (u .before .word2 .result) (u .before .before .word .ensures) (u .before .word2 .ensures) v n;
+    }
 
 returns-7 : tie.Need-returns-7
 returns-7 c =
