@@ -9,3 +9,4 @@ pub mod AcceptedLaw
 pub mod PositionLaw
 pub mod PartLaw
 pub mod ReadLaw
+pub mod SizeBoundLaw

@@ -36,7 +36,7 @@ term-appended (node l cs ss) g x y =
 -- ---- one item, by the first node's role
 module _ (ρ : Valuation) (l : Label) (cs ss : Forest) (ws : List ℤ) (e : emit ρ (node l cs ss) ≡ some ws) where
   -- what the first term emits, and the terms behind it
-  parted : (us : List ℤ) × (rest : List ℤ) × (emitAt ρ (role l) l (termCount cs) (values ρ cs) (emit ρ cs) ≡ some us) × (emit ρ ss ≡ some rest) × (us ++ rest ≡ ws)
+  pub parted : (us : List ℤ) × (rest : List ℤ) × (emitAt ρ (role l) l (termCount cs) (values ρ cs) (emit ρ cs) ≡ some us) × (emit ρ ss ≡ some rest) × (us ++ rest ≡ ws)
   parted =
       let c = came (emitAt ρ (role l) l (termCount cs) (values ρ cs) (emit ρ cs)) (λ x. emit ρ ss >>= λ y. some (x ++ y)) ws e in
       let d = came (emit ρ ss) (λ y. some (c .0 ++ y)) ws (c .2) in
