@@ -1,7 +1,7 @@
 -- One rule at one configuration, put together: its outcome, its verdict and its successor.
 use mathlib.Core.Path.{_≡_, refl, sym, _∙_, ap}
 use mathlib.Core.Bool.{Bool, true, false, cond}
-use mathlib.Core.Logic.{_⊎_, inl, inr, ⊎-elim, _↔_}
+use mathlib.Core.Logic.{_↔_}
 use mathlib.Core.Option.{Option, none, some, Option·none-ne-some}
 use mathlib.Core.List.{List, [], _∷_}
 use Prim.Native.Nat.{ℕ, zero, suc, _*_, _≤_, _<_}
@@ -30,48 +30,23 @@ use Rattle.minuska.proofs.Good.{good}
 use Rattle.minuska.proofs.StepLaw.{rule-okay}
 use Rattle.minuska.proofs.MatchLaw.{match-sound, matches-binds}
 use Rattle.minuska.proofs.ConditionLaw.{has-value}
-use Rattle.step.specs.declared.right.Fit.{Fit}
-use Rattle.step.specs.declared.right.Fit.the-variants.{Words, TooLarge}
 use Rattle.step.specs.declared.how_far.HowFar.{HowFar}
 use Rattle.step.specs.declared.how_far.HowFar.the-variants.{All, Until}
 use Rattle.step.specs.declared.rule.Verdict.the-variants.{Applies}
 use Rattle.step.specs.Compare.{Comparison, agreed, apart, comparison, passedBy, boundBy}
 use Rattle.step.specs.Conditions.{allOf, heldBy}
-use Rattle.step.specs.Apply.{Candidate, fitOf, instantiatedAs, instantiatedOut, verdictHeld, verdictBy, verdictOf}
+use Rattle.step.specs.Apply.{Candidate, instantiatedAs, instantiatedOut, verdictHeld, verdictBy, verdictOf}
 use Rattle.step.proofs.CompareLaw.{compare-match}
 use Rattle.step.proofs.ConditionsLaw.{held-all}
 use Rattle.step.proofs.MatchingAnswer.{ground-good}
 
--- ---- the measure, in nodes
-module _ (limit : ℕ) (h : Term) where
-  pub fit-words : nodeCount h ≤ limit → fitOf (2 * limit) (length (encode (single h))) ≡ Words (2 * nodeCount h)
-  unfolding fitOf
-  fit-words x = rw (term-length h) (rw (le-leb (2 * nodeCount h) (2 * limit) (omega arith)))
+-- ---- whether there is room, in nodes
+module _ (limit : ℕ) (h : Term) (b : Bool) (e : b ≡ leb (length (encode (single h))) (2 * limit)) where
+  pub too-large : b ≡ false → limit < nodeCount h
+  too-large t = omega (arith, term-length h, leb-false (length (encode (single h))) (2 * limit) (sym e ∙ t))
 
-  pub fit-not : limit < nodeCount h → fitOf (2 * limit) (length (encode (single h))) ≡ TooLarge
-  unfolding fitOf
-  fit-not x = rw (term-length h) (rw (lt-leb (2 * nodeCount h) (2 * limit) (omega arith)))
-
--- ---- the successor within the limit, or not
-fits-or-not : (limit : ℕ) (h : Term) → (nodeCount h ≤ limit) ⊎ (limit < nodeCount h)
-fits-or-not limit h = go (leb (nodeCount h) limit) refl
-  where
-    go : (b : Bool) → leb (nodeCount h) limit ≡ b → (nodeCount h ≤ limit) ⊎ (limit < nodeCount h)
-    go true e = inl (leb-true (nodeCount h) limit e)
-    go false e = inr (leb-false (nodeCount h) limit e)
-
-module _ (limit : ℕ) (h : Term) (f : Fit) (e : f ≡ fitOf (2 * limit) (length (encode (single h)))) where
-  pub too-large : f ≡ TooLarge → limit < nodeCount h
-  too-large t = ⊎-elim (λ x. absurd (no (sym t ∙ e ∙ fit-words limit h x))) (λ x. x) (fits-or-not limit h)
-    where
-      no : TooLarge ≡ Words (2 * nodeCount h) → ⊥
-      no q = let z : _≡_ {A = ℕ} 0 1 = cc in omega arith
-
-  pub words-fit : (k : ℕ) → f ≡ Words k → (k ≡ 2 * nodeCount h) × (nodeCount h ≤ limit)
-  words-fit k t = ⊎-elim (λ x. (let q : Words k ≡ Words (2 * nodeCount h) = sym t ∙ e ∙ fit-words limit h x in (cc), x)) (λ x. absurd (no (sym t ∙ e ∙ fit-not limit h x))) (fits-or-not limit h)
-    where
-      no : Words k ≡ TooLarge → ⊥
-      no q = let z : _≡_ {A = ℕ} 0 1 = cc in omega arith
+  pub words-fit : b ≡ true → nodeCount h ≤ limit
+  words-fit t = omega (arith, term-length h, leb-true (length (encode (single h))) (2 * limit) (sym e ∙ t))
 
 module _ (limit n a : ℕ) (h : Term) (out : List ℤ) where
   pub as-large : limit < nodeCount h → (S.Refused OverLimit ≡ instantiatedAs limit n a h) × (out ≡ instantiatedOut limit h out)

@@ -5,6 +5,7 @@ pub mod MatchingAnswer
 pub mod ConditionsLaw
 pub mod RightLaw
 pub mod RightLoopLaw
+pub mod RoomLaw
 pub mod RuleLaw
 pub mod ApplyLaw
 pub mod WaysLaw

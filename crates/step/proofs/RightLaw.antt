@@ -48,7 +48,7 @@ one-if : (b : Bool) (z : ℤ) → OneNode (cond b (leaf (whole z)) outOfRange)
 one-if true z = refl
 one-if false z = refl
 
-one-node : (c : ℕ) (xs : Forest) → OneNode (interpret c xs)
+pub one-node : (c : ℕ) (xs : Forest) → OneNode (interpret c xs)
 one-node = every-value OneNode (λ b. refl) refl (λ z. one-if (inWord z) z) (λ a b c. one-if (shareRange a b c) _)
 
 -- a variable's number is in range, and its part is the item

@@ -1,5 +1,6 @@
 -- All items of a right: the turns of `measure_right` and `write_right`.
 use mathlib.Core.Path.{_≡_, refl, sym, _∙_, ap}
+use mathlib.Core.Bool.{true, false}
 use mathlib.Core.Option.{Option·some-injective}
 use mathlib.Core.List.{List, [], _++_, append-assoc, append-nil}
 use Prim.Native.Nat.{ℕ, _+_, _-_, _≤_, _<_}
@@ -16,8 +17,6 @@ use Rattle.value.specs.declared.Evaluated.{Evaluated}
 use Rattle.value.specs.Value.{valueWords}
 use Rattle.value.specs.Copy.{written}
 use Rattle.step.specs.declared.right.Sized.{Sized}
-use Rattle.step.specs.declared.right.Fit.the-variants.{Words, TooLarge}
-use Rattle.step.specs.Apply.{fitOf}
 use Rattle.step.specs.Right.{Rest, SomeRest, LeadsOn, ItemOf, ItemIs, SizedOf, SizedIs, MeasureRightIs, FittingItem, FittingRest, WriteRightIs}
 
 module _ (ws cs : List ℤ) (starts ends : List ℕ) (at end : ℕ) where
@@ -68,20 +67,18 @@ module _ (ws cs : List ℤ) (starts ends : List ℕ) (at end : ℕ) where
         let (so-far, c, e) = m .come (s .valuation) (s .terms) (s .words) (s .is) in
         record { valuation = s .valuation; terms = c .later; words = c .words; is = c .rest }
 
-    pub measured : end ≤ i → MeasureRightIs ws cs starts ends at end room (Words (room - left))
-    unfolding fitOf
+    pub measured : end ≤ i → MeasureRightIs ws cs starts ends at end room true
     measured h =
-        record { is = λ ρ f us r. let (so-far, c, e) = m .come ρ f us r in let q = ap length (come-end us ρ i so-far c h) in let n : room - left ≡ length us = omega arith in rw (n, le-leb (length us) room (omega arith)) refl }
+        record { is = λ ρ f us r. let (so-far, c, e) = m .come ρ f us r in let q = ap length (come-end us ρ i so-far c h) in sym (le-leb (length us) room (omega arith)) }
 
     module _ (r : Sized) (x : SizedIs ws cs starts ends i end r) where
       pub measuring-on : r .words ≤ left → Measuring room (r .next) (left - r .words)
       measuring-on h =
           record { come = λ ρ f us z. let (so-far, c, e) = m .come ρ f us z in let t = come-sized us ρ i so-far c r x in (so-far ++ t .first, come-on us ρ i so-far c (t .first) (r .next) (t .leads), omega (arith, length-append so-far (t .first), t .many)) }
 
-      pub measured-over : left < r .words → MeasureRightIs ws cs starts ends at end room TooLarge
-      unfolding fitOf
+      pub measured-over : left < r .words → MeasureRightIs ws cs starts ends at end room false
       measured-over h =
-          record { is = λ ρ f us z. let (so-far, c, e) = m .come ρ f us z in let t = come-sized us ρ i so-far c r x in let k = come-size us ρ i so-far c (t .first) (r .next) (t .leads) in rw (lt-leb (length us) room (omega (arith, t .many))) refl }
+          record { is = λ ρ f us z. let (so-far, c, e) = m .come ρ f us z in let t = come-sized us ρ i so-far c r x in let k = come-size us ρ i so-far c (t .first) (r .next) (t .leads) in sym (lt-leb (length us) room (omega (arith, t .many))) }
 
       pub measuring-forward : SomeRest ws cs starts ends at end → i < r .next
       measuring-forward s = let (so-far, c, e) = m .come (s .valuation) (s .terms) (s .words) (s .is) in come-sized (s .words) (s .valuation) i so-far c r x .leads .forward
@@ -111,8 +108,12 @@ module _ (ws cs : List ℤ) (starts ends : List ℕ) (at end : ℕ) where
         let (so-far, c, e, f) = m .come (s .valuation) (s .terms) (s .words) (s .is) in
         record { rest = record { valuation = s .valuation; terms = c .later; words = c .words; is = c .rest }; before = h; fit = omega (arith, k .fit, e, ap length (c .joined), length-append so-far (c .words)) }
 
-    pub all-written : end ≤ i → WriteRightIs ws cs starts ends at end out₀ out
-    all-written h = record { is = λ ρ f us r. let (so-far, c, e, w) = m .come ρ f us r in w ∙ ap (λ (z : List ℤ). write z out₀) (come-end us ρ i so-far c h) }
+    pub all-written : end ≤ i → WriteRightIs ws cs starts ends at end out₀ out o
+    all-written h =
+        record {
+          is = λ ρ f us r. let (so-far, c, e, w) = m .come ρ f us r in w ∙ ap (λ (z : List ℤ). write z out₀) (come-end us ρ i so-far c h);
+          many = λ ρ f us r. let (so-far, c, e, w) = m .come ρ f us r in e ∙ ap length (come-end us ρ i so-far c h);
+        }
 
     module _ (r : Evaluated) (x : ItemIs ws cs starts ends i end r) where
       pub writing-on : (o′ : ℕ) (out′ : List ℤ) → out′ ≡ written out o (valueWords ws cs (r .value)) → o′ ≡ o + length (valueWords ws cs (r .value)) → Writing out₀ (r .next) o′ out′

@@ -1,11 +1,15 @@
 -- From where a rule's parts stand to what stands there: the left, the conditions and the right of that rule.
-use mathlib.Core.Path.{_≡_, _∙_, ap}
+use mathlib.Core.Path.{_≡_, sym, _∙_, ap}
+use mathlib.Core.Bool.{Bool, true}
 use mathlib.Core.Option.{Option, some}
 use mathlib.Core.List.{List, [], _∷_}
-use Prim.Native.Nat.{ℕ}
+use Prim.Native.Nat.{ℕ, _+_, _*_, _≤_}
+use native.Mathlib.Nat.{mul-le-mul}
+use native.Mathlib.Omega.{arith}
 use lib.IntN.{ℤ}
 use lib.Dec.{T}
-use lib.ListN.{getElem?}
+use lib.ListN.{length, getElem?}
+use borrow.Author.Tests.{le-leb}
 use Rattle.minuska.specs.Basics.{_>>=_, every}
 use Rattle.minuska.specs.Term.{Term, single}
 use Rattle.minuska.specs.Word.{encode}
@@ -14,19 +18,21 @@ use Rattle.minuska.specs.Rule.{Rule, Table, okRule, okCondition, IsTable}
 use Rattle.minuska.specs.Computed.Match.{unbound}
 use Rattle.minuska.specs.Computed.Value.{value}
 use Rattle.minuska.specs.Bridge.Walk.{emit}
-use Rattle.minuska.specs.Bridge.Place.{Names, leftWords, rightWords, conditionsWords, PartIs}
+use Rattle.minuska.specs.Bridge.Place.{Names, leftWords, rightWords, conditionsWords, PartIs, SizesAre}
 use Rattle.minuska.proofs.Tests.{and-left, and-right}
 use Rattle.minuska.proofs.Good.{good, good-condition}
 use Rattle.minuska.proofs.StepLaw.{rule-okay}
 use Rattle.minuska.proofs.MatchLaw.{match-sound, matches-binds}
 use Rattle.minuska.proofs.ConditionLaw.{has-value}
 use Rattle.minuska.proofs.Bridge.WriteLaw.{emit-values}
-use Rattle.step.specs.Apply.{Matched, SomeMatched, MatchIs, HoldIs, MeasureIs, WordsFit, WriteIs}
+use Rattle.minuska.proofs.Bridge.AcceptedLaw.{configuration-most}
+use Rattle.minuska.proofs.Bridge.SizeBoundLaw.{sizes-most}
+use Rattle.step.specs.Apply.{Matched, SomeMatched, MatchIs, HoldIs, FitsIs, WordsFit, WriteIs}
 use Rattle.step.specs.Matching.{IsLeft, LeftIn, MatchContract}
 use Rattle.step.specs.Conditions.{SidesWorth, StandingConditions, SomeConditions, HoldAllIs}
 use Rattle.step.specs.Right.{Rest, SomeRest, MeasureRightIs, FittingRest, WriteRightIs}
 use Rattle.step.specs.declared.how_far.HowFar.{HowFar}
-use Rattle.step.specs.declared.right.Fit.{Fit}
+use Rattle.step.proofs.RoomLaw.{words-most}
 
 module _ (ws : List ℤ) (n : ℕ) where
   pub matched-names : (cs : List ℤ) (starts ends : List ℕ) → SomeMatched ws cs n starts ends → Names ws n
@@ -114,8 +120,24 @@ module _ (ws : List ℤ) (n : ℕ) where
           let (h, v) = right-worth (s .rule) (s .configuration) (s .valuation) (s .is) in
           record { rest = record { valuation = s .valuation; terms = single (s .rule .right); words = encode (single h); is = right-at (s .rule) (s .configuration) (s .valuation) (s .is) h v }; fit = k .fit (s .rule) (s .configuration) (s .valuation) h (s .is) v }
 
-      pub measure-is : (room : ℕ) (r : Fit) → MeasureRightIs ws cs starts ends from to room r → MeasureIs ws cs n starts ends room r
-      measure-is room r k = record { is = λ rule g ρ h m v. k .is ρ (single (rule .right)) (encode (single h)) (right-at rule g ρ m h v) }
+      pub measured-is : (room : ℕ) (r : Bool) → MeasureRightIs ws cs starts ends from to room r → FitsIs ws cs n starts ends room r
+      measured-is room r k = record { is = λ rule g ρ h m v. k .is ρ (single (rule .right)) (encode (single h)) (right-at rule g ρ m h v) }
 
-      pub write-is : (out out′ : List ℤ) → WriteRightIs ws cs starts ends from to out out′ → WriteIs ws cs n starts ends out out′
-      write-is out out′ k = record { is = λ rule g ρ h m v. k .is ρ (single (rule .right)) (encode (single h)) (right-at rule g ρ m h v) }
+      pub write-is : (out out′ : List ℤ) (r : ℕ) → WriteRightIs ws cs starts ends from to out out′ r → WriteIs ws cs n starts ends out out′ r
+      write-is out out′ r k =
+          record { is = λ rule g ρ h m v. k .is ρ (single (rule .right)) (encode (single h)) (right-at rule g ρ m h v); many = λ rule g ρ h m v. k .many ρ (single (rule .right)) (encode (single h)) (right-at rule g ρ m h v) }
+
+    -- ---- its sizes: what they show, and that they are small
+    module _ (fixed leaves : ℕ) (x : SizesAre ws n fixed leaves) where
+      pub shown-is : (room : ℕ) → 2 * fixed + leaves * length cs ≤ room → FitsIs ws cs n starts ends room true
+      shown-is room k =
+          record { is = λ rule g ρ h m v. let most = words-most cs starts ends ρ (m .binds) (single (rule .right)) (encode (single h)) (emits rule g ρ m h v) in let few : length (encode (single h)) ≤ 2 * fixed + leaves * length cs = rw (x .ones (m .at .table) rule (m .at .is) (m .at .numbered), x .variables (m .at .table) rule (m .at .is) (m .at .numbered)) most in sym (le-leb (length (encode (single h))) room (omega arith)) }
+
+      pub sizes-small : SomeMatched ws cs n starts ends → (fixed ≤ 512) × (leaves * length cs ≤ 512 * 65536)
+      sizes-small s =
+          let a = s .is .at in
+          let p = x .ones (a .table) (s .rule) (a .is) (a .numbered) in
+          let q = x .variables (a .table) (s .rule) (a .is) (a .numbered) in
+          let k = sizes-most (s .rule .right) in
+          let small = good (s .rule) (okay (s .rule) (s .configuration) (s .valuation) (s .is)) .right .small in
+          (omega arith, mul-le-mul {n₂ = 512} {m₂ = 65536} (omega arith) (configuration-most cs (s .configuration) (a .configuration)))

@@ -1,5 +1,6 @@
 -- What each way out of `write_within` and of `judge` says, over plain variables.
 use mathlib.Core.Path.{_≡_, sym, _∙_, ap, subst}
+use mathlib.Core.Bool.{Bool, true, false}
 use mathlib.Core.Logic.{_↔_}
 use mathlib.Core.Option.{some}
 use mathlib.Core.List.{List}
@@ -19,14 +20,12 @@ use Rattle.minuska.specs.Computed.Value.{value}
 use Rattle.minuska.specs.Computed.Step.{successor}
 use Rattle.minuska.specs.Bridge.Place.{Names, Accepted, Binds, ActionIs}
 use Rattle.minuska.proofs.Bridge.AcceptedLaw.{term-length}
-use Rattle.step.specs.declared.right.Fit.{Fit}
-use Rattle.step.specs.declared.right.Fit.the-variants.{Words, TooLarge}
 use Rattle.step.specs.declared.how_far.HowFar.{HowFar}
 use Rattle.step.specs.declared.how_far.HowFar.the-variants.{All, Until}
 use Rattle.step.specs.declared.rule.Verdict.{Verdict}
 use Rattle.step.specs.declared.rule.Verdict.the-variants.{Misfit, Applies}
 use Rattle.step.specs.Compare.{Comparison, agreed, apart, comparison, passedBy}
-use Rattle.step.specs.Apply.{Candidate, Matched, SomeMatched, MatchIs, HoldIs, verdictHeld, verdictBy, verdictOf, JudgeIs, MeasureIs, WordsFit, WriteIs, Instantiated}
+use Rattle.step.specs.Apply.{Candidate, Matched, SomeMatched, MatchIs, HoldIs, verdictHeld, verdictBy, verdictOf, JudgeIs, FitsIs, WordsFit, WriteIs, Instantiated}
 use Rattle.step.proofs.ApplyLaw.{too-large, words-fit, as-large, as-stepped, matched-some, verdict-applies}
 
 -- the limit that an out slice gives is within it
@@ -34,24 +33,24 @@ pub limit-fits : (n : ℕ) → 2 * outLimit n ≤ n
 limit-fits n = omega (arith, min-le-left (n / 2) maxNodes)
 
 -- ---- `write_within`
-module _ (ws cs : List ℤ) (n : ℕ) (starts ends : List ℕ) (out : List ℤ) (f : Fit) (m : MeasureIs ws cs n starts ends (2 * outLimit (length out)) f) where
+module _ (ws cs : List ℤ) (n : ℕ) (starts ends : List ℕ) (out : List ℤ) (b : Bool) (m : FitsIs ws cs n starts ends (2 * outLimit (length out)) b) where
   abbrev limit : ℕ
   limit = outLimit (length out)
 
-  pub way-large : f ≡ TooLarge → Instantiated ws cs n starts ends out out (S.Refused OverLimit)
+  pub way-large : b ≡ false → Instantiated ws cs n starts ends out out (S.Refused OverLimit)
   way-large t =
-      record { answer = λ rule g ρ h x v. as-large limit n (rule .action) h out (too-large limit h f (m .is rule g ρ h x v) t) .0; leaves = λ rule g ρ h x v. as-large limit n (rule .action) h out (too-large limit h f (m .is rule g ρ h x v) t) .1 }
+      record { answer = λ rule g ρ h x v. as-large limit n (rule .action) h out (too-large limit h b (m .is rule g ρ h x v) t) .0; leaves = λ rule g ρ h x v. as-large limit n (rule .action) h out (too-large limit h b (m .is rule g ρ h x v) t) .1 }
 
-  pub fits-out : (k : ℕ) → f ≡ Words k → WordsFit ws cs n starts ends (length out)
-  fits-out k t =
-      record { fit = λ rule g ρ h x v. let w = words-fit limit h f (m .is rule g ρ h x v) k t in let z = term-length h in omega (arith, limit-fits (length out), w .1) }
+  module _ (t : b ≡ true) where
+    within : (rule : Rule) (g : Term) (ρ : Valuation) (h : Term) → Matched ws cs n starts ends rule g ρ → value ρ (rule .right) ≡ some h → nodeCount h ≤ limit
+    within rule g ρ h x v = words-fit limit h b (m .is rule g ρ h x v) t
 
-  pub way-stepped : (k a : ℕ) (out′ : List ℤ) → f ≡ Words k → ActionIs ws n a → WriteIs ws cs n starts ends out out′ → Instantiated ws cs n starts ends out out′ (S.Stepped n a (k / 2))
-  way-stepped k a out′ t i w =
-      record { answer = λ rule g ρ h x v. let z = fitted rule g ρ h x v in let p : k / 2 ≡ nodeCount h = omega (arith, z .0) in let q : a ≡ rule .action = i .is (x .at .table) rule (x .at .is) (x .at .numbered) in rw (p, q) (as-stepped limit n (rule .action) h out (z .1) .0); leaves = λ rule g ρ h x v. w .is rule g ρ h x v ∙ as-stepped limit n (rule .action) h out (fitted rule g ρ h x v .1) .1 }
-    where
-      fitted : (rule : Rule) (g : Term) (ρ : Valuation) (h : Term) → Matched ws cs n starts ends rule g ρ → value ρ (rule .right) ≡ some h → (k ≡ 2 * nodeCount h) × (nodeCount h ≤ limit)
-      fitted rule g ρ h x v = words-fit limit h f (m .is rule g ρ h x v) k t
+    pub fits-out : WordsFit ws cs n starts ends (length out)
+    fits-out = record { fit = λ rule g ρ h x v. omega (arith, term-length h, limit-fits (length out), within rule g ρ h x v) }
+
+    pub way-stepped : (k a : ℕ) (out′ : List ℤ) → ActionIs ws n a → WriteIs ws cs n starts ends out out′ k → Instantiated ws cs n starts ends out out′ (S.Stepped n a (k / 2))
+    way-stepped k a out′ i w =
+        record { answer = λ rule g ρ h x v. let p : k / 2 ≡ nodeCount h = omega (arith, w .many rule g ρ h x v, term-length h) in let q : a ≡ rule .action = i .is (x .at .table) rule (x .at .is) (x .at .numbered) in rw (p, q) (as-stepped limit n (rule .action) h out (within rule g ρ h x v) .0); leaves = λ rule g ρ h x v. w .is rule g ρ h x v ∙ as-stepped limit n (rule .action) h out (within rule g ρ h x v) .1 }
 
 -- ---- `judge`
 module _ (ws cs : List ℤ) (n : ℕ) (starts ends : List ℕ) where

@@ -1,6 +1,6 @@
 -- One rule at one configuration, over checked words. Each statement is about every rule and term that the words can be: there is only one of each.
 use mathlib.Core.Path.{_≡_}
-use mathlib.Core.Bool.{cond}
+use mathlib.Core.Bool.{Bool, cond}
 use mathlib.Core.Logic.{_↔_}
 use mathlib.Core.Option.{some}
 use mathlib.Core.List.{List}
@@ -26,8 +26,6 @@ use Rattle.step.specs.declared.rule.Verdict.{Verdict}
 use Rattle.step.specs.declared.rule.Verdict.the-variants.{Misfit, Fails, Applies}
 use Rattle.step.specs.Compare.{Comparison, agreed, apart, comparison, passedBy}
 use Rattle.step.specs.Conditions.{heldBy}
-use Rattle.step.specs.declared.right.Fit.{Fit}
-use Rattle.step.specs.declared.right.Fit.the-variants.{Words, TooLarge}
 
 -- rule number n of the table that the words are, and the configuration that they are
 pub record Candidate (ws cs : List ℤ) (n : ℕ) (rule : Rule) (g : Term) : Type 0 where
@@ -76,19 +74,17 @@ pub record JudgeIs (ws cs : List ℤ) (n : ℕ) (starts′ ends′ : List ℕ) (
   pub applies : (rule : Rule) (g : Term) → Candidate ws cs n rule g → (r ≡ Applies) ↔ ((h : Term) × (successor rule g ≡ some h))
   pub binds : (rule : Rule) (g : Term) (ρ : Valuation) → Candidate ws cs n rule g → tryMatch (single (rule .left)) (single g) unbound ≡ some ρ → Binds cs starts′ ends′ ρ
 
--- the right's words: how many they are, if there is room for them
-unfoldable pub fitOf : ℕ → ℕ → Fit
-fitOf room n = cond (leb n room) (Words n) TooLarge
+-- whether there is room for the right's words
+pub record FitsIs (ws cs : List ℤ) (n : ℕ) (starts ends : List ℕ) (room : ℕ) (r : Bool) : Type 0 where
+  pub is : (rule : Rule) (g : Term) (ρ : Valuation) (h : Term) → Matched ws cs n starts ends rule g ρ → value ρ (rule .right) ≡ some h → r ≡ leb (length (encode (single h))) room
 
-pub record MeasureIs (ws cs : List ℤ) (n : ℕ) (starts ends : List ℕ) (room : ℕ) (r : Fit) : Type 0 where
-  pub is : (rule : Rule) (g : Term) (ρ : Valuation) (h : Term) → Matched ws cs n starts ends rule g ρ → value ρ (rule .right) ≡ some h → r ≡ fitOf room (length (encode (single h)))
-
--- the right's words fit; they are written, and the words behind keep
+-- the right's words fit; so many are written, and the words behind keep
 pub record WordsFit (ws cs : List ℤ) (n : ℕ) (starts ends : List ℕ) (room : ℕ) : Type 0 where
   pub fit : (rule : Rule) (g : Term) (ρ : Valuation) (h : Term) → Matched ws cs n starts ends rule g ρ → value ρ (rule .right) ≡ some h → length (encode (single h)) ≤ room
 
-pub record WriteIs (ws cs : List ℤ) (n : ℕ) (starts ends : List ℕ) (out out′ : List ℤ) : Type 0 where
+pub record WriteIs (ws cs : List ℤ) (n : ℕ) (starts ends : List ℕ) (out out′ : List ℤ) (r : ℕ) : Type 0 where
   pub is : (rule : Rule) (g : Term) (ρ : Valuation) (h : Term) → Matched ws cs n starts ends rule g ρ → value ρ (rule .right) ≡ some h → out′ ≡ write (encode (single h)) out
+  pub many : (rule : Rule) (g : Term) (ρ : Valuation) (h : Term) → Matched ws cs n starts ends rule g ρ → value ρ (rule .right) ≡ some h → r ≡ length (encode (single h))
 
 -- the successor that the right gives, in the out slice and in the answer
 unfoldable pub instantiatedAs : ℕ → ℕ → ℕ → Term → StepAnswer

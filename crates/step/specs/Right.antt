@@ -4,7 +4,7 @@ use mathlib.Core.Bool.{Bool, true}
 use mathlib.Core.Option.{some}
 use mathlib.Core.List.{List, _++_}
 use Prim.Native.Nat.{ℕ, _+_, _≤_, _<_}
-use lib.Dec.{T}
+use lib.Dec.{T, leb}
 use lib.IntN.{ℤ, pos}
 use lib.ListN.{length, getD}
 use Rattle.minuska.specs.Term.{Forest}
@@ -19,10 +19,8 @@ use Rattle.value.specs.declared.Evaluated.{Evaluated}
 use Rattle.value.specs.declared.Value.{Value}
 use Rattle.value.specs.Value.{valueWords, Within}
 use Rattle.value.specs.Copy.{PutContract}
-use Rattle.step.specs.declared.right.Fit.{Fit}
 use Rattle.step.specs.declared.right.Sized.{Sized}
 use Rattle.step.specs.declared.right.Written.{Written}
-use Rattle.step.specs.Apply.{fitOf}
 
 module _ (ws cs : List ℤ) (starts ends : List ℕ) where
   -- from a place up to another stand the terms f of a right, and under ρ, whose terms the arrays place, they emit the words us
@@ -65,9 +63,9 @@ module _ (ws cs : List ℤ) (starts ends : List ℕ) where
   pub record SizedIs (at end : ℕ) (r : Sized) : Type 0 where
     pub is : (ρ : Valuation) (f : Forest) (us : List ℤ) → Rest at end ρ f us → SizedOf at end ρ us r
 
-  -- all items: how many words, if there is room; the words themselves, written from the start of a slice
-  pub record MeasureRightIs (at end room : ℕ) (r : Fit) : Type 0 where
-    pub is : (ρ : Valuation) (f : Forest) (us : List ℤ) → Rest at end ρ f us → r ≡ fitOf room (length us)
+  -- all items: whether there is room for their words; the words themselves, written from the start of a slice, and how many
+  pub record MeasureRightIs (at end room : ℕ) (r : Bool) : Type 0 where
+    pub is : (ρ : Valuation) (f : Forest) (us : List ℤ) → Rest at end ρ f us → r ≡ leb (length us) room
 
   -- one item, written from a place of a slice on: some item that stands there, and the slice with its words put there
   pub record FittingItem (at end o room : ℕ) : Type 0 where
@@ -84,8 +82,9 @@ module _ (ws cs : List ℤ) (starts ends : List ℕ) where
     pub rest : SomeRest at end
     pub fit : length (rest .words) ≤ room
 
-  pub record WriteRightIs (at end : ℕ) (out out′ : List ℤ) : Type 0 where
+  pub record WriteRightIs (at end : ℕ) (out out′ : List ℤ) (r : ℕ) : Type 0 where
     pub is : (ρ : Valuation) (f : Forest) (us : List ℤ) → Rest at end ρ f us → out′ ≡ write us out
+    pub many : (ρ : Valuation) (f : Forest) (us : List ℤ) → Rest at end ρ f us → r ≡ length us
 
 -- Where an item that is no call lies shows in the table and in the two arrays alone, whatever configuration they point into.
 module _ (ws : List ℤ) (starts ends : List ℕ) (at : ℕ) where

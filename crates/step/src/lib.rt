@@ -12,7 +12,6 @@ use minuska::Refusal;
 use minuska::StepAnswer;
 use minuska::limits::MAX_CONFIGURATION_WORDS;
 use minuska::limits::MAX_NODES;
-use right::Fit;
 use term::Places;
 use term::VARIABLES;
 ghost use mathlib.Core.Path.{_≡_};
@@ -106,16 +105,14 @@ fn write_within<'a>(
     ensures { λ r. ⌜ Instantiated (now (table .entry)) (now (configuration .entry)) rule (now (starts .entry)) (now (ends .entry)) (now (out .entry)) (now (out .exit)) r ⌝ }
 {
     let room = 2 * out_limit(out.len());
-    match rule::measure(table, index, rule, configuration, starts, ends, room) {
-        Fit::TooLarge => StepAnswer::Refused(Refusal::OverLimit),
-        Fit::Words(n) => {
-            rule::write_successor(table, index, rule, configuration, starts, ends, out);
-            StepAnswer::Stepped {
-                rule,
-                action: table::index::action(table, index, rule),
-                nodes: n / 2,
-            }
-        }
+    if !rule::fits(table, index, rule, configuration, starts, ends, room) {
+        return StepAnswer::Refused(Refusal::OverLimit);
+    }
+    let n = rule::write_successor(table, index, rule, configuration, starts, ends, out);
+    StepAnswer::Stepped {
+        rule,
+        action: table::index::action(table, index, rule),
+        nodes: n / 2,
     }
 }
 

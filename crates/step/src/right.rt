@@ -6,12 +6,6 @@ ghost use Prim.Native.Nat.{_<_};
 ghost use lib.ListN.{length};
 ghost use Rattle.step.specs.Right.{SomeRest, ItemIs, SomePiece, PieceIs, OneNodeIs, SizedIs, MeasureRightIs, FittingItem, WriteItemIs, FittingRest, WriteRightIs};
 
-// How many words a successor has, or that there is no room for them.
-pub enum Fit {
-    Words(usize),
-    TooLarge,
-}
-
 // One item that is no call, where it lies: a variable's part of the configuration, or a node's two words of the table.
 pub fn piece(table: &[i64], at: usize, starts: &Places, ends: &Places) -> Evaluated
     requires { ⌜ SomePiece (now table) (now starts) (now ends) at ⌝ }
@@ -95,7 +89,7 @@ pub fn item_size(
     }
 }
 
-// How many words the items from a place up to another have, if there is room for them.
+// Whether there is room for the words of the items from a place up to another.
 pub fn measure_right(
     table: &[i64],
     configuration: &[i64],
@@ -104,7 +98,7 @@ pub fn measure_right(
     starts: &Places,
     ends: &Places,
     room: usize,
-) -> Fit
+) -> bool
     requires { ⌜ SomeRest (now table) (now configuration) (now starts) (now ends) at end ⌝ }
     ensures { λ r. ⌜ MeasureRightIs (now (table .entry)) (now (configuration .entry)) (now (starts .entry)) (now (ends .entry)) at end room r ⌝ }
 {
@@ -114,12 +108,12 @@ pub fn measure_right(
         let x = item_size(table, configuration, i, end, starts, ends);
         let n = x.words;
         if left < n {
-            return Fit::TooLarge;
+            return false;
         }
         left -= n;
         i = x.next;
     }
-    Fit::Words(room - left)
+    true
 }
 
 // The place behind an item's words, and the place behind the item.
@@ -172,7 +166,7 @@ pub fn write_item<'a>(
     }
 }
 
-// Writes the items' words from the start of out.
+// Writes the items' words from the start of out, and says how many.
 pub fn write_right<'a>(
     table: &'a [i64],
     configuration: &'a [i64],
@@ -181,9 +175,9 @@ pub fn write_right<'a>(
     starts: &Places,
     ends: &Places,
     out: &mut [i64],
-)
+) -> usize
     requires { ⌜ FittingRest (now table) (now configuration) (now starts) (now ends) at end (length (now out)) ⌝ }
-    ensures { λ _. ⌜ WriteRightIs (now (table .entry)) (now (configuration .entry)) (now (starts .entry)) (now (ends .entry)) at end (now (out .entry)) (now (out .exit)) ⌝ }
+    ensures { λ r. ⌜ WriteRightIs (now (table .entry)) (now (configuration .entry)) (now (starts .entry)) (now (ends .entry)) at end (now (out .entry)) (now (out .exit)) r ⌝ }
 {
     let mut i = at;
     let mut o: usize = 0;
@@ -192,4 +186,5 @@ pub fn write_right<'a>(
         o = x.place;
         i = x.next;
     }
+    o
 }

@@ -1,12 +1,11 @@
 // One rule at a configuration, over checked words and the table's index: its left, its conditions, the words of its right.
 use crate::how_far::HowFar;
-use crate::right::Fit;
 use minuska::Index;
 use term::Places;
 ghost use mathlib.Core.Path.{_≡_};
 ghost use lib.ListN.{length};
 ghost use Rattle.minuska.specs.Bridge.Place.{Indexed, Names, Accepted, Decides};
-ghost use Rattle.step.specs.Apply.{SomeMatched, MatchIs, HoldIs, JudgeIs, MeasureIs, WordsFit, WriteIs};
+ghost use Rattle.step.specs.Apply.{SomeMatched, MatchIs, HoldIs, JudgeIs, FitsIs, WordsFit, WriteIs};
 
 // Whether a rule applies to a configuration, or why not.
 pub enum Verdict {
@@ -88,8 +87,9 @@ pub fn hold_conditions<'a>(
     )
 }
 
-// How many words the rule's successor has, if there is room for them.
-pub fn measure(
+// Whether there is room for the words of the rule's successor. Most often the sizes of its right show that there is, since a variable's term is a part of the
+// configuration; else the right is measured.
+pub fn fits(
     table: &[i64],
     index: &Index,
     rule: usize,
@@ -97,10 +97,14 @@ pub fn measure(
     starts: &Places,
     ends: &Places,
     room: usize,
-) -> Fit
+) -> bool
     requires { ⌜ Indexed (now table) (now index) × SomeMatched (now table) (now configuration) rule (now starts) (now ends) ⌝ }
-    ensures { λ r. ⌜ MeasureIs (now (table .entry)) (now (configuration .entry)) rule (now (starts .entry)) (now (ends .entry)) room r ⌝ }
+    ensures { λ r. ⌜ FitsIs (now (table .entry)) (now (configuration .entry)) rule (now (starts .entry)) (now (ends .entry)) room r ⌝ }
 {
+    let sizes = table::index::sizes(table, index, rule);
+    if 2 * sizes.fixed + sizes.leaves * configuration.len() <= room {
+        return true;
+    }
     let right = table::index::right(table, index, rule);
     crate::right::measure_right(
         table,
@@ -113,7 +117,7 @@ pub fn measure(
     )
 }
 
-// Writes the words of the rule's successor from the start of out.
+// Writes the words of the rule's successor from the start of out, and says how many.
 pub fn write_successor<'a>(
     table: &'a [i64],
     index: &Index,
@@ -122,10 +126,10 @@ pub fn write_successor<'a>(
     starts: &Places,
     ends: &Places,
     out: &mut [i64],
-)
+) -> usize
     requires { ⌜ Indexed (now table) (now index) × SomeMatched (now table) (now configuration) rule (now starts) (now ends) ⌝ }
     requires { ⌜ WordsFit (now table) (now configuration) rule (now starts) (now ends) (length (now out)) ⌝ }
-    ensures { λ _. ⌜ WriteIs (now (table .entry)) (now (configuration .entry)) rule (now (starts .entry)) (now (ends .entry)) (now (out .entry)) (now (out .exit)) ⌝ }
+    ensures { λ r. ⌜ WriteIs (now (table .entry)) (now (configuration .entry)) rule (now (starts .entry)) (now (ends .entry)) (now (out .entry)) (now (out .exit)) r ⌝ }
 {
     let right = table::index::right(table, index, rule);
     crate::right::write_right(

@@ -41,9 +41,6 @@ loop-again c =
     let s = l .before in
     (omega (arith, l .loop .inv .0), measuring-on (s .args .table .now) (s .args .configuration .now) (s .args .starts .now) (s .args .ends .now) (s .args .at) (s .args .end) (s .args .room) (l .loop .i) (l .loop .left) (l .loop .inv .1) (x .item-size .result) (x .item-size .ensures) (c .if1 .left))
 
-sub-t13 : tie.Need-sub-t13 Inv-loop μ-loop
-sub-t13 c = omega arith
-
 returns-2 : tie.Need-returns-2 Inv-loop μ-loop
 returns-2 c =
     let l = c .before in
@@ -61,5 +58,4 @@ measure-right-spec =
     returns
     loop-less
     loop-again
-    sub-t13
     returns-2)

@@ -23,7 +23,7 @@ returns c =
     let k = w .before .before in
     let s = k .before in
     let p = k .right .result in
-    write-is (s .args .table .now) (s .args .rule) (s .args .configuration .now) (s .args .starts .now) (s .args .ends .now) (p .from) (p .to) (k .right .ensures) (s .args .out .now) (w .write-right .last .1 .1 .1 .1 .1 .1 .0) (w .write-right .ensures)
+    write-is (s .args .table .now) (s .args .rule) (s .args .configuration .now) (s .args .starts .now) (s .args .ends .now) (p .from) (p .to) (k .right .ensures) (s .args .out .now) (w .write-right .last .1 .1 .1 .1 .1 .1 .0) (w .write-right .result) (w .write-right .ensures)
 
 pub write-successor-spec : {M : Type 1} → statement M
 write-successor-spec = tie.close (tie.spec right-requires write-right-requires same-length returns)
