@@ -9,4 +9,3 @@ pub mod AcceptedLaw
 pub mod PositionLaw
 pub mod PartLaw
 pub mod ReadLaw
-pub mod SizeBoundLaw

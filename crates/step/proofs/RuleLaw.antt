@@ -26,7 +26,7 @@ use Rattle.minuska.proofs.MatchLaw.{match-sound, matches-binds}
 use Rattle.minuska.proofs.ConditionLaw.{has-value}
 use Rattle.minuska.proofs.Bridge.WriteLaw.{emit-values}
 use Rattle.minuska.proofs.Bridge.AcceptedLaw.{configuration-most}
-use Rattle.minuska.proofs.Bridge.SizeBoundLaw.{sizes-most}
+use Rattle.minuska.proofs.Bridge.SizeLaw.{sizes-few}
 use Rattle.step.specs.Apply.{Matched, SomeMatched, MatchIs, HoldIs, FitsIs, WordsFit, WriteIs}
 use Rattle.step.specs.Matching.{IsLeft, LeftIn, MatchContract}
 use Rattle.step.specs.Conditions.{SidesWorth, StandingConditions, SomeConditions, HoldAllIs}
@@ -138,6 +138,6 @@ module _ (ws : List ℤ) (n : ℕ) where
           let a = s .is .at in
           let p = x .ones (a .table) (s .rule) (a .is) (a .numbered) in
           let q = x .variables (a .table) (s .rule) (a .is) (a .numbered) in
-          let k = sizes-most (s .rule .right) in
+          let k = sizes-few (single (s .rule .right)) in
           let small = good (s .rule) (okay (s .rule) (s .configuration) (s .valuation) (s .is)) .right .small in
           (omega arith, mul-le-mul {n₂ = 512} {m₂ = 65536} (omega arith) (configuration-most cs (s .configuration) (a .configuration)))

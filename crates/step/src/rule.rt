@@ -87,8 +87,8 @@ pub fn hold_conditions<'a>(
     )
 }
 
-// Whether there is room for the words of the rule's successor. Most often the sizes of its right show that there is, since a variable's term is a part of the
-// configuration; else the right is measured.
+// Whether there is room for the words of the rule's successor. There is if the right's sizes show it: two words for each node that gives one, and for each
+// variable, whose term is a part of the configuration, no more than the configuration has. Else the right is measured.
 pub fn fits(
     table: &[i64],
     index: &Index,
