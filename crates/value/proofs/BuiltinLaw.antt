@@ -1,71 +1,137 @@
--- What two words say by their tag; the functions of a group of codes, and what a root of another kind is to them.
-use mathlib.Core.Path.{_≡_, refl, sym, ap, subst}
-use mathlib.Core.Bool.{Bool, true, false, not, cond, Bool·beq}
-use mathlib.Core.Logic.{⊎-elim}
-use mathlib.Core.Option.{Option, none}
+-- What two words say by their tag; the functions on arguments of one kind, and what an argument of another kind is to them.
+use mathlib.Core.Path.{_≡_, refl, sym, ap, _∙_}
+use mathlib.Core.Bool.{Bool, true, false, _&&_, cond}
+use mathlib.Core.Option.{Option, none, some}
 use Prim.Native.Nat.{ℕ, zero, suc, _^_, _≤_, _<_}
-use native.Mathlib.Nat.{eq-or-lt-of-le}
 use native.Mathlib.Omega.{arith}
 use lib.Dec.{eqb, leb}
-use lib.ListN.{List·getD-eq-default}
+use lib.ListN.{length, List·getD-eq-default}
 use lib.IntN.{ℤ, pos, negsuc, _*ℤ_}
 use lib.Signed.{mag, ltZ, quotZ}
-use borrow.Author.Tests.{ltb-true, ltb-false, le-leb, lt-leb, eqb-true, eqb-false}
+use borrow.Author.Tests.{ltb-true, ltb-false, le-leb, lt-leb, eq-eqb, ne-eqb}
 use mir.Syntax.{w64}
 use mir.Val.{SFits, toZ, ofZ}
 use mir.Facts.{toZ-ofZ}
-use Rattle.minuska.specs.Term.{Label, error, truth, whole, symbol, leaf}
-use Rattle.minuska.specs.Basics.{present}
-use Rattle.minuska.specs.Function.{asTruth, asWhole, asSymbol, inWord, wholeTerm, shareRange, outOfRange, Function, functions, noFunction}
-use Rattle.value.specs.Builtin.{unsigned, labelAt, leaves, applied}
-use Rattle.value.proofs.Shift.{lit-pos}
+use Rattle.minuska.specs.Term.{Label, error, truth, whole, symbol, Term}
+use Rattle.minuska.specs.Basics.{_>>=_, present, provided, sameWhole}
+use Rattle.minuska.specs.Function.{asTruth, asWhole, asSymbol, wrongKind, orWrongKind, inWord, wholeTerm, shareRange, shareOf, Function, functions, noFunction}
+use Rattle.value.specs.Builtin.{unsigned, labelAt, rootOf, leaves, applied}
+use Rattle.value.proofs.Shift.{eq-bits}
 
--- ---- the groups of codes: 3 to 5 on truth values, 8 to 12 on whole numbers
-or-above : (P : ℕ → Type 0) (k n : ℕ) → k ≤ n → P k → (k < n → P n) → P n
-or-above P k n h p f = ⊎-elim (λ e. subst P e p) f (eq-or-lt-of-le h)
-
-module _ (P : ℕ → Type 0) (n : ℕ) where
-  pub truth-codes : 3 ≤ n → n ≤ 5 → P 3 → P 4 → P 5 → P n
-  truth-codes l h p₃ p₄ p₅ = or-above P 3 n l p₃ λ l. or-above P 4 n l p₄ λ l. or-above P 5 n l p₅ λ l. absurd (omega arith)
-
-  pub whole-codes : 8 ≤ n → n ≤ 12 → P 8 → P 9 → P 10 → P 11 → P 12 → P n
-  whole-codes l h p₈ p₉ p₁₀ p₁₁ p₁₂ =
-      or-above P 8 n l p₈ λ l. or-above P 9 n l p₉ λ l. or-above P 10 n l p₁₀ λ l. or-above P 11 n l p₁₁ λ l. or-above P 12 n l p₁₂ λ l. absurd (omega arith)
-
--- ---- a root by its tag
+-- ---- the kinds that functions ask for: the tag, a label read as one of the kind, what a datum says, and that the tag decides
 unsigned-is : (z : ℤ) → unsigned z ≡ ofZ w64 z
 unsigned-is (pos n) = refl
 unsigned-is (negsuc n) = refl
-
-pub is-truth : (t d : ℤ) → SFits w64 t → ofZ w64 t ≡ 1 → labelAt t d ≡ truth (eqb (ofZ w64 d) 1)
-unfolding labelAt
-is-truth t d f e = rw (lit-pos t 1 (f .sfits) (omega arith) e, unsigned-is d)
-
-pub is-whole : (t d : ℤ) → SFits w64 t → ofZ w64 t ≡ 2 → labelAt t d ≡ whole d
-unfolding labelAt
-is-whole t d f e = rw (lit-pos t 2 (f .sfits) (omega arith) e)
 
 -- what no one looks for in an error and in a symbol
 other : {A : Type 0} (f : Label → Option A) (n : ℕ) → f error ≡ none → f (symbol n) ≡ none → (b : Bool) → f (cond b (symbol n) error) ≡ none
 other f n e s true = s
 other f n e s false = e
 
-pub no-truth : (t d : ℤ) → (ofZ w64 t ≡ 1 → ⊥) → asTruth (labelAt t d) ≡ none
-unfolding labelAt
-no-truth (pos zero) d h = refl
-no-truth (pos (suc zero)) d h = absurd (h refl)
-no-truth (pos (suc (suc zero))) d h = refl
-no-truth (pos (suc (suc (suc n)))) d h = other asTruth (unsigned d) refl refl (leb 5 n)
-no-truth (negsuc n) d h = refl
+pub record Kind (A : Type 0) : Type 0 where
+  pub tag : ℤ
+  pub read : Label → Option A
+  pub says : ℤ → A
+  pub seen : (t d : ℤ) → read (labelAt t d) ≡ provided (sameWhole t tag) (says d)
 
-pub no-whole : (t d : ℤ) → (ofZ w64 t ≡ 2 → ⊥) → asWhole (labelAt t d) ≡ none
+pub truth-seen : (t d : ℤ) → asTruth (labelAt t d) ≡ provided (sameWhole t (pos 1)) (eqb (ofZ w64 d) 1)
 unfolding labelAt
-no-whole (pos zero) d h = refl
-no-whole (pos (suc zero)) d h = refl
-no-whole (pos (suc (suc zero))) d h = absurd (h refl)
-no-whole (pos (suc (suc (suc n)))) d h = other asWhole (unsigned d) refl refl (leb 5 n)
-no-whole (negsuc n) d h = refl
+truth-seen (pos zero) d = refl
+truth-seen (pos (suc zero)) d = rw (unsigned-is d)
+truth-seen (pos (suc (suc zero))) d = refl
+truth-seen (pos (suc (suc (suc n)))) d = rw (ne-eqb (suc (suc (suc n))) 1 (λ h. omega arith)) (other asTruth (unsigned d) refl refl (leb 5 n))
+truth-seen (negsuc n) d = refl
 
+pub whole-seen : (t d : ℤ) → asWhole (labelAt t d) ≡ provided (sameWhole t (pos 2)) d
+unfolding labelAt
+whole-seen (pos zero) d = refl
+whole-seen (pos (suc zero)) d = refl
+whole-seen (pos (suc (suc zero))) d = refl
+whole-seen (pos (suc (suc (suc n)))) d = rw (ne-eqb (suc (suc (suc n))) 2 (λ h. omega arith)) (other asWhole (unsigned d) refl refl (leb 5 n))
+whole-seen (negsuc n) d = refl
+
+abbrev pub truths : Kind Bool
+truths = record { tag = pos 1; read = asTruth; says = λ d. eqb (ofZ w64 d) 1; seen = truth-seen }
+
+abbrev pub wholes : Kind ℤ
+wholes = record { tag = pos 2; read = asWhole; says = λ d. d; seen = whole-seen }
+
+-- ---- one, two and three arguments of a kind: what the function gives, or the error of another kind
+with-one : {A : Type 0} (s : Bool) (x : A) (f : A → Term) → orWrongKind (provided s x >>= λ x. some (f x)) ≡ cond s (f x) wrongKind
+with-one true x f = refl
+with-one false x f = refl
+
+with-two : {A : Type 0} (s u : Bool) (x y : A) (f : A → A → Term) → orWrongKind (provided s x >>= λ x. provided u y >>= λ y. some (f x y)) ≡ cond (s && u) (f x y) wrongKind
+with-two true u x y f = with-one u y (f x)
+with-two false u x y f = refl
+
+with-three : {A : Type 0} (s u v : Bool) (x y z : A) (f : A → A → A → Term) →
+    orWrongKind (provided s x >>= λ x. provided u y >>= λ y. provided v z >>= λ z. some (f x y z)) ≡ cond (s && u && v) (f x y z) wrongKind
+with-three true u v x y z f = with-two u v y z (f x)
+with-three false u v x y z f = refl
+
+module _ {A : Type 0} (k : Kind A) where
+  abbrev pub onOne : (A → Term) → Label → Term
+  onOne f l = orWrongKind (k .read l >>= λ x. some (f x))
+
+  abbrev pub onTwo : (A → A → Term) → Label → Label → Term
+  onTwo f l m = orWrongKind (k .read l >>= λ x. k .read m >>= λ y. some (f x y))
+
+  abbrev pub onThree : (A → A → A → Term) → Label → Label → Label → Term
+  onThree f l m n = orWrongKind (k .read l >>= λ x. k .read m >>= λ y. k .read n >>= λ z. some (f x y z))
+
+-- ---- a tag compared as a word
+pub tag-seen : (t : ℤ) (n : ℕ) → SFits w64 t → n < 2 ^ 63 → eqb (ofZ w64 t) n ≡ sameWhole t (pos n)
+tag-seen t n f h = eq-bits t (pos n) (f .sfits) h
+
+pub tag-is : (t : ℤ) (n : ℕ) → SFits w64 t → n < 2 ^ 63 → ofZ w64 t ≡ n → sameWhole t (pos n) ≡ true
+tag-is t n f h e = sym (tag-seen t n f h) ∙ eq-eqb (ofZ w64 t) n e
+
+pub tag-not : (t : ℤ) (n : ℕ) → SFits w64 t → n < 2 ^ 63 → (ofZ w64 t ≡ n → ⊥) → sameWhole t (pos n) ≡ false
+tag-not t n f h e = sym (tag-seen t n f h) ∙ ne-eqb (ofZ w64 t) n e
+
+-- ---- a function's value, from tests of the tags
+module _ {A : Type 0} (k : Kind A) (a x : ℤ) where
+  there : (s : Bool) (v : A) → s ≡ present (provided s v)
+  there true v = refl
+  there false v = refl
+
+  -- bool.is and z.is look at the tag alone
+  pub is-there : sameWhole a (k .tag) ≡ present (k .read (labelAt a x))
+  is-there = rw (k .seen a x) (there (sameWhole a (k .tag)) (k .says x))
+
+  pub one-value : (f : A → Term) (r : Bool) → sameWhole a (k .tag) ≡ r → rootOf (cond r (f (k .says x)) wrongKind .label) ≡ rootOf (onOne k f (labelAt a x) .label)
+  one-value f r told = rw (k .seen a x, ← told) (ap (λ (t : Term). rootOf (t .label)) (sym (with-one (sameWhole a (k .tag)) (k .says x) f)))
+
+-- two tags as `both` has compared them
+module _ {A : Type 0} (k : Kind A) {a b : ℤ} (x y : ℤ) (fa : SFits w64 a) (fb : SFits w64 b) {r : Bool} (told : r ≡ (sameWhole (toZ w64 (ofZ w64 a)) (k .tag) && sameWhole (toZ w64 (ofZ w64 b)) (k .tag))) where
+  both-seen : r ≡ (sameWhole a (k .tag) && sameWhole b (k .tag))
+  both-seen = rw (toZ-ofZ fa, toZ-ofZ fb) at told
+
+  pub two-value : (f : A → A → Term) (s : Bool) → r ≡ s → rootOf (cond s (f (k .says x) (k .says y)) wrongKind .label) ≡ rootOf (onTwo k f (labelAt a x) (labelAt b y) .label)
+  two-value f s e =
+      rw (k .seen a x, k .seen b y, ← e, both-seen) (ap (λ (t : Term). rootOf (t .label)) (sym (with-two (sameWhole a (k .tag)) (sameWhole b (k .tag)) (k .says x) (k .says y) f)))
+
+  pub three-value : (f : A → A → A → Term) (c z : ℤ) (s u : Bool) → r ≡ s → sameWhole c (k .tag) ≡ u →
+      rootOf (cond (s && u) (f (k .says x) (k .says y) (k .says z)) wrongKind .label) ≡ rootOf (onThree k f (labelAt a x) (labelAt b y) (labelAt c z) .label)
+  three-value f c z s u e i =
+      rw (k .seen a x, k .seen b y, k .seen c z, ← e, both-seen, ← i)
+      (ap (λ (t : Term). rootOf (t .label)) (sym (with-three (sameWhole a (k .tag)) (sameWhole b (k .tag)) (sameWhole c (k .tag)) (k .says x) (k .says y) (k .says z) f)))
+
+-- ---- a code that is none of the functions', one by one, names no function
+abbrev pub NoneBelow : ℕ → ℕ → Type 0
+NoneBelow zero n = Unit {0}
+NoneBelow (suc m) n = NoneBelow m n × (n ≡ m → ⊥)
+
+at-least : (m n : ℕ) → NoneBelow m n → m ≤ n
+at-least zero n h = omega arith
+at-least (suc m) n h = let l = at-least m n (h .0) in let o = h .1 in omega arith
+
+pub no-function : (n : ℕ) (a b c : Label) → NoneBelow (length functions) n → error ≡ applied n a b c
+unfolding applied
+no-function n a b c h = ap (λ (f : Function). f .meaning (leaves a b c) .label) (sym (List·getD-eq-default functions noFunction (at-least (length functions) n h)))
+
+-- ---- symbols
 pub is-symbol : (t d : ℤ) → ltZ t (pos 8) ≡ false → labelAt t d ≡ symbol (ofZ w64 d)
 unfolding labelAt
 is-symbol (pos zero) d h = absurd (omega (arith, ltb-false 0 8 h))
@@ -82,104 +148,13 @@ no-symbol (pos (suc (suc zero))) d h = refl
 no-symbol (pos (suc (suc (suc n)))) d h = rw (lt-leb 5 n (omega (arith, ltb-true (suc (suc (suc n))) 8 h)))
 no-symbol (negsuc n) d h = refl
 
--- bool.is and z.is look at the tag alone
-pub truth-seen : (t d : ℤ) → SFits w64 t → eqb (ofZ w64 t) 1 ≡ present (asTruth (labelAt t d))
-truth-seen t d f = go (eqb (ofZ w64 t) 1) refl
-  where
-    go : (b : Bool) → eqb (ofZ w64 t) 1 ≡ b → b ≡ present (asTruth (labelAt t d))
-    go true e = rw (is-truth t d f (eqb-true (ofZ w64 t) 1 e))
-    go false e = rw (no-truth t d (eqb-false (ofZ w64 t) 1 e))
-
-pub whole-seen : (t d : ℤ) → SFits w64 t → eqb (ofZ w64 t) 2 ≡ present (asWhole (labelAt t d))
-whole-seen t d f = go (eqb (ofZ w64 t) 2) refl
-  where
-    go : (b : Bool) → eqb (ofZ w64 t) 2 ≡ b → b ≡ present (asWhole (labelAt t d))
-    go true e = rw (is-whole t d f (eqb-true (ofZ w64 t) 2 e))
-    go false e = rw (no-whole t d (eqb-false (ofZ w64 t) 2 e))
-
--- ---- an argument of another kind gives error
-module _ (n : ℕ) (a b c : Label) where
-  pub no-first-truth : 3 ≤ n → n ≤ 5 → asTruth a ≡ none → error ≡ applied n a b c
-  unfolding applied
-  no-first-truth l h e = truth-codes (λ k. error ≡ applied k a b c) n l h (rw e) (rw e) (rw e)
-
-  pub no-second-truth : 3 ≤ n → n ≤ 5 → (x : Bool) → a ≡ truth x → asTruth b ≡ none → error ≡ applied n a b c
-  unfolding applied
-  no-second-truth l h x i e = truth-codes (λ k. error ≡ applied k a b c) n l h (rw (i, e)) (rw (i, e)) (rw (i, e))
-
-  pub no-first-whole : 8 ≤ n → n ≤ 12 → asWhole a ≡ none → error ≡ applied n a b c
-  unfolding applied
-  no-first-whole l h e = whole-codes (λ k. error ≡ applied k a b c) n l h (rw e) (rw e) (rw e) (rw e) (rw e)
-
-  pub no-second-whole : 8 ≤ n → n ≤ 12 → (x : ℤ) → a ≡ whole x → asWhole b ≡ none → error ≡ applied n a b c
-  unfolding applied
-  no-second-whole l h x i e = whole-codes (λ k. error ≡ applied k a b c) n l h (rw (i, e)) (rw (i, e)) (rw (i, e)) (rw (i, e)) (rw (i, e))
-
-  -- ---- the groups look at two arguments; a code above 14 names no function
-  pub truth-third : 3 ≤ n → n ≤ 5 → applied n a b error ≡ applied n a b c
-  unfolding applied
-  truth-third l h = truth-codes (λ k. applied k a b error ≡ applied k a b c) n l h refl refl refl
-
-  pub whole-third : 8 ≤ n → n ≤ 12 → applied n a b error ≡ applied n a b c
-  unfolding applied
-  whole-third l h = whole-codes (λ k. applied k a b error ≡ applied k a b c) n l h refl refl refl refl refl
-
-  pub no-function : 15 ≤ n → error ≡ applied n a b c
-  unfolding applied
-  no-function h = ap (λ (f : Function). f .meaning (leaves a b c) .label) (sym (List·getD-eq-default functions noFunction h))
-
--- ---- bool.and and bool.or: where the first argument leaves it open, the second says; else the first
-beq-same : (x y : Bool) → Bool·beq x y ≡ true → x ≡ y
-beq-same true true e = refl
-beq-same true false e = absurd (let z : _≡_ {A = ℕ} 0 1 = cc in omega arith)
-beq-same false true e = absurd (let z : _≡_ {A = ℕ} 0 1 = cc in omega arith)
-beq-same false false e = refl
-
-beq-other : (x y : Bool) → Bool·beq x y ≡ false → x ≡ not y
-beq-other true true e = absurd (let z : _≡_ {A = ℕ} 0 1 = cc in omega arith)
-beq-other true false e = refl
-beq-other false true e = refl
-beq-other false false e = absurd (let z : _≡_ {A = ℕ} 0 1 = cc in omega arith)
-
-module _ (n : ℕ) (x y : Bool) (l : 3 ≤ n) (h : n ≤ 5) (o : n ≡ 5 → ⊥) where
-  pub second-says : Bool·beq x (eqb n 3) ≡ true → truth y ≡ applied n (truth x) (truth y) error
-  unfolding applied
-  second-says e =
-      truth-codes (λ k. (k ≡ 5 → ⊥) → x ≡ eqb k 3 → truth y ≡ applied k (truth x) (truth y) error) n l h
-      (λ o e. rw e) (λ o e. rw e) (λ o e. absurd (o refl)) o (beq-same x (eqb n 3) e)
-
-  pub first-says : Bool·beq x (eqb n 3) ≡ false → truth x ≡ applied n (truth x) (truth y) error
-  unfolding applied
-  first-says e =
-      truth-codes (λ k. (k ≡ 5 → ⊥) → x ≡ not (eqb k 3) → truth x ≡ applied k (truth x) (truth y) error) n l h
-      (λ o e. rw e) (λ o e. rw e) (λ o e. absurd (o refl)) o (beq-other x (eqb n 3) e)
-
--- ---- functions with a code of their own
-pub neg-other : (a : Label) → asTruth a ≡ none → error ≡ applied 2 a error error
-unfolding applied
-neg-other a e = rw e
-
-module _ (a b c : Label) where
-  pub share-first : asWhole a ≡ none → error ≡ applied 14 a b c
-  unfolding applied
-  share-first e = rw e
-
-  pub share-second : (x : ℤ) → a ≡ whole x → asWhole b ≡ none → error ≡ applied 14 a b c
-  unfolding applied
-  share-second x i e = rw (i, e)
-
-  pub share-third : (x y : ℤ) → a ≡ whole x → b ≡ whole y → asWhole c ≡ none → error ≡ applied 14 a b c
-  unfolding applied
-  share-third x y i j e = rw (i, j, e)
-
+-- ---- the ranges of z.share
 module _ (x y z : ℤ) where
-  pub share-out : shareRange x y z ≡ false → error ≡ applied 14 (whole x) (whole y) (whole z)
-  unfolding applied
-  share-out e = sym (ap (λ (b : Bool). (cond b (leaf (whole (quotZ (x *ℤ y) z))) outOfRange) .label) e)
+  pub share-out : shareRange x y z ≡ false → error ≡ shareOf x y z .label
+  share-out e = rw e
 
-  pub share-in : shareRange x y z ≡ true → whole (quotZ (x *ℤ y) z) ≡ applied 14 (whole x) (whole y) (whole z)
-  unfolding applied
-  share-in e = sym (ap (λ (b : Bool). (cond b (leaf (whole (quotZ (x *ℤ y) z))) outOfRange) .label) e)
+  pub share-in : shareRange x y z ≡ true → whole (quotZ (x *ℤ y) z) ≡ shareOf x y z .label
+  share-in e = rw e
 
 -- ---- a sum or a difference that was tested first: z as the machine computes it, y as the table has it
 pub in-word : (z : ℤ) → inWord z ≡ true → SFits w64 z

@@ -3,12 +3,12 @@ use term::SYMBOL;
 use term::TRUTH;
 use term::WHOLE;
 ghost use mathlib.Core.Path.{_≡_};
-ghost use mathlib.Core.Bool.{true};
-ghost use Prim.Native.Nat.{_≤_};
+ghost use mathlib.Core.Bool.{_&&_};
 ghost use lib.Dec.{leb};
 ghost use lib.IntN.{natAbs, _+ℤ_, _-ℤ_};
+ghost use Rattle.minuska.specs.Basics.{sameWhole};
 ghost use Rattle.minuska.specs.Term.{error, truth, whole};
-ghost use Rattle.minuska.specs.Function.{inWord, shareRange};
+ghost use Rattle.minuska.specs.Function.{inWord, wholeTerm, shareRange, shareOf};
 ghost use Rattle.value.specs.Builtin.{labelAt, rootOf, applied};
 
 // The root of a term: the two words of its first node. The gap lies between them: they are written one by one, and would else be read back as one, for which a
@@ -19,7 +19,7 @@ pub struct Root {
     pub datum: i64,
 }
 
-// The value of the function of a code; a code that names none, and an argument of another kind, give error.
+// The value of the function of a code; a code that names none, and an argument of another kind, give error. Each code has its own arm, so that one jump leads to it.
 pub fn apply(code: usize, a: i64, x: i64, b: i64, y: i64, c: i64, z: i64) -> Root
     ensures { λ r. ⌜ r ≡ rootOf (applied code (labelAt a x) (labelAt b y) (labelAt c z)) ⌝ }
 {
@@ -27,11 +27,16 @@ pub fn apply(code: usize, a: i64, x: i64, b: i64, y: i64, c: i64, z: i64) -> Roo
         0 => a_truth(true),
         1 => a_truth(false),
         2 => neg(a, x),
-        3..=5 => logic(code, a, x, b, y),
+        3 => conjunction(a, x, b, y),
+        4 => disjunction(a, x, b, y),
+        5 => equal_truths(a, x, b, y),
         6 => a_truth(a == TRUTH),
         7 => a_truth(a == WHOLE),
-        8..=9 => arithmetic(code, a, x, b, y),
-        10..=12 => comparison(code, a, x, b, y),
+        8 => plus(a, x, b, y),
+        9 => minus(a, x, b, y),
+        10 => equal(a, x, b, y),
+        11 => at_most(a, x, b, y),
+        12 => less(a, x, b, y),
         13 => same_symbol(a, x, b, y),
         14 => share(a, x, b, y, c, z),
         _ => an_error(),
@@ -76,6 +81,7 @@ pub fn a_whole(z: i64) -> Root
     }
 }
 
+// bool.neg.
 pub fn neg(a: i64, x: i64) -> Root
     ensures { λ r. ⌜ r ≡ rootOf (applied 2 (labelAt a x) error error) ⌝ }
 {
@@ -85,45 +91,56 @@ pub fn neg(a: i64, x: i64) -> Root
     an_error()
 }
 
-// bool.and, bool.or, bool.eq.
-fn logic(code: usize, a: i64, x: i64, b: i64, y: i64) -> Root
-    requires { ⌜ (3 ≤ code) × (code ≤ 5) ⌝ }
-    ensures { λ r. ⌜ r ≡ rootOf (applied code (labelAt a x) (labelAt b y) error) ⌝ }
+// Whether both tags are a kind's.
+pub fn both(kind: i64, a: i64, b: i64) -> bool
+    ensures { λ r. ⌜ r ≡ (sameWhole a kind && sameWhole b kind) ⌝ }
 {
-    if a != TRUTH {
-        return an_error();
+    (a == kind) & (b == kind)
+}
+
+// bool.and.
+pub fn conjunction(a: i64, x: i64, b: i64, y: i64) -> Root
+    ensures { λ r. ⌜ r ≡ rootOf (applied 3 (labelAt a x) (labelAt b y) error) ⌝ }
+{
+    if both(TRUTH, a, b) {
+        return a_truth((x == 1) & (y == 1));
     }
-    if b != TRUTH {
-        return an_error();
+    an_error()
+}
+
+// bool.or.
+pub fn disjunction(a: i64, x: i64, b: i64, y: i64) -> Root
+    ensures { λ r. ⌜ r ≡ rootOf (applied 4 (labelAt a x) (labelAt b y) error) ⌝ }
+{
+    if both(TRUTH, a, b) {
+        return a_truth((x == 1) | (y == 1));
     }
-    if code == 5 {
+    an_error()
+}
+
+// bool.eq.
+pub fn equal_truths(a: i64, x: i64, b: i64, y: i64) -> Root
+    ensures { λ r. ⌜ r ≡ rootOf (applied 5 (labelAt a x) (labelAt b y) error) ⌝ }
+{
+    if both(TRUTH, a, b) {
         return a_truth((x == 1) == (y == 1));
     }
-    if (x == 1) == (code == 3) {
-        return a_truth(y == 1);
-    }
-    a_truth(x == 1)
+    an_error()
 }
 
-// z.plus, z.minus.
-fn arithmetic(code: usize, a: i64, x: i64, b: i64, y: i64) -> Root
-    requires { ⌜ (8 ≤ code) × (code ≤ 9) ⌝ }
-    ensures { λ r. ⌜ r ≡ rootOf (applied code (labelAt a x) (labelAt b y) error) ⌝ }
+// z.plus.
+pub fn plus(a: i64, x: i64, b: i64, y: i64) -> Root
+    ensures { λ r. ⌜ r ≡ rootOf (applied 8 (labelAt a x) (labelAt b y) error) ⌝ }
 {
-    if a != WHOLE {
-        return an_error();
+    if both(WHOLE, a, b) {
+        return sum(x, y);
     }
-    if b != WHOLE {
-        return an_error();
-    }
-    if code == 8 {
-        return plus(x, y);
-    }
-    minus(x, y)
+    an_error()
 }
 
-pub fn plus(a: i64, b: i64) -> Root
-    ensures { λ r. ⌜ r ≡ rootOf (applied 8 (whole a) (whole b) error) ⌝ }
+// A sum, if a word holds it.
+pub fn sum(a: i64, b: i64) -> Root
+    ensures { λ r. ⌜ r ≡ rootOf (wholeTerm (a +ℤ b) .label) ⌝ }
 {
     if sum_fits(a, b) {
         return a_whole(a + b);
@@ -141,8 +158,19 @@ pub fn sum_fits(a: i64, b: i64) -> bool
     a <= 9223372036854775807 - b
 }
 
-pub fn minus(a: i64, b: i64) -> Root
-    ensures { λ r. ⌜ r ≡ rootOf (applied 9 (whole a) (whole b) error) ⌝ }
+// z.minus.
+pub fn minus(a: i64, x: i64, b: i64, y: i64) -> Root
+    ensures { λ r. ⌜ r ≡ rootOf (applied 9 (labelAt a x) (labelAt b y) error) ⌝ }
+{
+    if both(WHOLE, a, b) {
+        return difference(x, y);
+    }
+    an_error()
+}
+
+// A difference, if a word holds it.
+pub fn difference(a: i64, b: i64) -> Root
+    ensures { λ r. ⌜ r ≡ rootOf (wholeTerm (a -ℤ b) .label) ⌝ }
 {
     if difference_fits(a, b) {
         return a_whole(a - b);
@@ -159,26 +187,37 @@ pub fn difference_fits(a: i64, b: i64) -> bool
     -9223372036854775808 + b <= a
 }
 
-// z.eq, z.le, z.lt.
-fn comparison(code: usize, a: i64, x: i64, b: i64, y: i64) -> Root
-    requires { ⌜ (10 ≤ code) × (code ≤ 12) ⌝ }
-    ensures { λ r. ⌜ r ≡ rootOf (applied code (labelAt a x) (labelAt b y) error) ⌝ }
+// z.eq.
+pub fn equal(a: i64, x: i64, b: i64, y: i64) -> Root
+    ensures { λ r. ⌜ r ≡ rootOf (applied 10 (labelAt a x) (labelAt b y) error) ⌝ }
 {
-    if a != WHOLE {
-        return an_error();
-    }
-    if b != WHOLE {
-        return an_error();
-    }
-    if code == 10 {
+    if both(WHOLE, a, b) {
         return a_truth(x == y);
     }
-    if code == 11 {
-        return a_truth(x <= y);
-    }
-    a_truth(x < y)
+    an_error()
 }
 
+// z.le.
+pub fn at_most(a: i64, x: i64, b: i64, y: i64) -> Root
+    ensures { λ r. ⌜ r ≡ rootOf (applied 11 (labelAt a x) (labelAt b y) error) ⌝ }
+{
+    if both(WHOLE, a, b) {
+        return a_truth(x <= y);
+    }
+    an_error()
+}
+
+// z.lt.
+pub fn less(a: i64, x: i64, b: i64, y: i64) -> Root
+    ensures { λ r. ⌜ r ≡ rootOf (applied 12 (labelAt a x) (labelAt b y) error) ⌝ }
+{
+    if both(WHOLE, a, b) {
+        return a_truth(x < y);
+    }
+    an_error()
+}
+
+// term.same_symbol.
 pub fn same_symbol(a: i64, x: i64, b: i64, y: i64) -> Root
     ensures { λ r. ⌜ r ≡ rootOf (applied 13 (labelAt a x) (labelAt b y) error) ⌝ }
 {
@@ -191,22 +230,17 @@ pub fn same_symbol(a: i64, x: i64, b: i64, y: i64) -> Root
     a_truth(x == y)
 }
 
+// z.share.
 pub fn share(a: i64, x: i64, b: i64, y: i64, c: i64, z: i64) -> Root
     ensures { λ r. ⌜ r ≡ rootOf (applied 14 (labelAt a x) (labelAt b y) (labelAt c z)) ⌝ }
 {
-    if a != WHOLE {
+    if !both(WHOLE, a, b) {
         return an_error();
     }
-    if b != WHOLE {
-        return an_error();
+    if c == WHOLE {
+        return quotient(x, y, z);
     }
-    if c != WHOLE {
-        return an_error();
-    }
-    if !in_range(x, y, z) {
-        return an_error();
-    }
-    quotient(x, y, z)
+    an_error()
 }
 
 // The ranges of z.share.
@@ -235,11 +269,13 @@ pub fn small(x: i64) -> bool
 }
 
 // Toward zero; within the ranges the product fits.
-fn quotient(a: i64, b: i64, c: i64) -> Root
-    requires { ⌜ shareRange a b c ≡ true ⌝ }
-    ensures { λ r. ⌜ r ≡ rootOf (applied 14 (whole a) (whole b) (whole c)) ⌝ }
+pub fn quotient(a: i64, b: i64, c: i64) -> Root
+    ensures { λ r. ⌜ r ≡ rootOf (shareOf a b c .label) ⌝ }
 {
-    let product = a * b;
-    let share = product / c;
-    a_whole(share)
+    if in_range(a, b, c) {
+        let product = a * b;
+        let share = product / c;
+        return a_whole(share);
+    }
+    an_error()
 }

@@ -1,39 +1,12 @@
-use mathlib.Core.Path.{_≡_, ap, _∙_}
+use mathlib.Core.Path.{ap, _∙_}
 use mathlib.Core.Bool.{Bool}
-use Prim.Native.Nat.{ℕ, _≤_, _<_}
-use native.Mathlib.Omega.{arith}
+use lib.Dec.{lit<}
 use mir.Facts.{toZ-ofZ}
 use Rattle.minuska.specs.Term.{truth}
 use Rattle.value.specs.Builtin.{rootOf, applied}
-use Rattle.value.proofs.BuiltinLaw.{truth-seen, whole-seen, truth-third, whole-third, no-function}
+use Rattle.value.proofs.BuiltinLaw.{truths, wholes, tag-seen, is-there, no-function}
 use Rattle.value.proofs.builtin.apply.Statement.{statement}
 use Rattle.value.proofs.builtin.apply.Tie as tie
-
--- a code that is none of the keys of its own, from where its group starts up to where it ends
-from-3 : (n : ℕ) → (n ≡ 0 → ⊥) → (n ≡ 1 → ⊥) → (n ≡ 2 → ⊥) → 3 ≤ n
-from-3 n a b c = omega arith
-
-from-8 : (n : ℕ) → 6 ≤ n → (n ≡ 6 → ⊥) → (n ≡ 7 → ⊥) → 8 ≤ n
-from-8 n h a b = omega arith
-
-from-15 : (n : ℕ) → 13 ≤ n → (n ≡ 13 → ⊥) → (n ≡ 14 → ⊥) → 15 ≤ n
-from-15 n h a b = omega arith
-
-module _ (n : ℕ) where
-  to-5 : n < 6 → n ≤ 5
-  to-5 h = omega arith
-
-  to-9 : n < 10 → n ≤ 9
-  to-9 h = omega arith
-
-  to-12 : n < 13 → n ≤ 12
-  to-12 h = omega arith
-
-logic-from : (c : tie.At-match-rest) → 3 ≤ c .before .args .code
-logic-from c = let r = c .match .rest in from-3 _ (r .0 .0 .0 .0 .0 .0 .1) (r .0 .0 .0 .0 .0 .1) (r .0 .0 .0 .0 .1)
-
-arithmetic-from : (c : tie.Else1) → 8 ≤ c .before .before .args .code
-arithmetic-from c = let r = c .before .match .rest in from-8 _ (c .if1 .left) (r .0 .0 .0 .1) (r .0 .0 .1)
 
 a-truth-requires : tie.Need-a-truth-requires
 a-truth-requires c κs = tt
@@ -44,26 +17,41 @@ a-truth-requires-2 c κs = tt
 neg-requires : tie.Need-neg-requires
 neg-requires c κs = tt
 
+conjunction-requires : tie.Need-conjunction-requires
+conjunction-requires c κs = tt
+
+disjunction-requires : tie.Need-disjunction-requires
+disjunction-requires c κs = tt
+
+equal-truths-requires : tie.Need-equal-truths-requires
+equal-truths-requires c κs = tt
+
 a-truth-requires-3 : tie.Need-a-truth-requires-3
 a-truth-requires-3 c κs = tt
 
 a-truth-requires-4 : tie.Need-a-truth-requires-4
 a-truth-requires-4 c κs = tt
 
+plus-requires : tie.Need-plus-requires
+plus-requires c κs = tt
+
+minus-requires : tie.Need-minus-requires
+minus-requires c κs = tt
+
+equal-requires : tie.Need-equal-requires
+equal-requires c κs = tt
+
+at-most-requires : tie.Need-at-most-requires
+at-most-requires c κs = tt
+
+less-requires : tie.Need-less-requires
+less-requires c κs = tt
+
 same-symbol-requires : tie.Need-same-symbol-requires
 same-symbol-requires c κs = tt
 
 share-requires : tie.Need-share-requires
 share-requires c κs = tt
-
-logic-requires : tie.Need-logic-requires
-logic-requires c κs = (logic-from (c .before), to-5 _ (c .if1 .taken))
-
-arithmetic-requires : tie.Need-arithmetic-requires
-arithmetic-requires c κs = (arithmetic-from (c .before), to-9 _ (c .if2 .taken))
-
-comparison-requires : tie.Need-comparison-requires
-comparison-requires c κs = (omega arith, to-12 _ (c .if3 .taken))
 
 an-error-requires : tie.Need-an-error-requires
 an-error-requires c κs = tt
@@ -86,45 +74,76 @@ returns-4 : tie.Need-returns-4
 unfolding applied
 returns-4 c =
     let s = c .before .before in
-    rw (c .before .match .keys4) (c .a-truth3 .ensures ∙ ap (λ (b : Bool). rootOf (truth b)) (truth-seen (s .args .a) (s .args .x) (s .fits .a)))
+    rw (c .before .match .keys4) (rw (toZ-ofZ (s .fits .a), toZ-ofZ (s .fits .x), toZ-ofZ (s .fits .b), toZ-ofZ (s .fits .y)) at (c .conjunction .ensures))
 
 returns-5 : tie.Need-returns-5
 unfolding applied
 returns-5 c =
     let s = c .before .before in
-    rw (c .before .match .keys5) (c .a-truth4 .ensures ∙ ap (λ (b : Bool). rootOf (truth b)) (whole-seen (s .args .a) (s .args .x) (s .fits .a)))
+    rw (c .before .match .keys5) (rw (toZ-ofZ (s .fits .a), toZ-ofZ (s .fits .x), toZ-ofZ (s .fits .b), toZ-ofZ (s .fits .y)) at (c .disjunction .ensures))
 
 returns-6 : tie.Need-returns-6
 unfolding applied
 returns-6 c =
     let s = c .before .before in
-    rw (c .before .match .keys6) (rw (toZ-ofZ (s .fits .a), toZ-ofZ (s .fits .x), toZ-ofZ (s .fits .b), toZ-ofZ (s .fits .y)) at (c .same-symbol .ensures))
+    rw (c .before .match .keys6) (rw (toZ-ofZ (s .fits .a), toZ-ofZ (s .fits .x), toZ-ofZ (s .fits .b), toZ-ofZ (s .fits .y)) at (c .equal-truths .ensures))
 
 returns-7 : tie.Need-returns-7
+unfolding applied
 returns-7 c =
     let s = c .before .before in
-    rw (c .before .match .keys7) (rw (toZ-ofZ (s .fits .a), toZ-ofZ (s .fits .x), toZ-ofZ (s .fits .b), toZ-ofZ (s .fits .y), toZ-ofZ (s .fits .c), toZ-ofZ (s .fits .z)) at (c .share .ensures))
+    rw (c .before .match .keys7) (c .a-truth3 .ensures ∙ ap (λ (b : Bool). rootOf (truth b)) (tag-seen (s .args .a) 1 (s .fits .a) (lit< tt) ∙ is-there truths (s .args .a) (s .args .x)))
 
 returns-8 : tie.Need-returns-8
+unfolding applied
 returns-8 c =
-    let s = c .before .before .before in
-    (rw (toZ-ofZ (s .fits .a), toZ-ofZ (s .fits .x), toZ-ofZ (s .fits .b), toZ-ofZ (s .fits .y)) at (c .logic .ensures)) ∙ ap rootOf (truth-third _ _ _ _ (logic-from (c .before .before)) (to-5 _ (c .before .if1 .taken)))
+    let s = c .before .before in
+    rw (c .before .match .keys8) (c .a-truth4 .ensures ∙ ap (λ (b : Bool). rootOf (truth b)) (tag-seen (s .args .a) 2 (s .fits .a) (lit< tt) ∙ is-there wholes (s .args .a) (s .args .x)))
 
 returns-9 : tie.Need-returns-9
+unfolding applied
 returns-9 c =
-    let h = c .before .if2 .taken in
-    let s = c .before .before .before .before in
-    (rw (toZ-ofZ (s .fits .a), toZ-ofZ (s .fits .x), toZ-ofZ (s .fits .b), toZ-ofZ (s .fits .y)) at (c .arithmetic .ensures)) ∙ ap rootOf (whole-third _ _ _ _ (arithmetic-from (c .before .before)) (omega arith))
+    let s = c .before .before in
+    rw (c .before .match .keys9) (rw (toZ-ofZ (s .fits .a), toZ-ofZ (s .fits .x), toZ-ofZ (s .fits .b), toZ-ofZ (s .fits .y)) at (c .plus .ensures))
 
 returns-10 : tie.Need-returns-10
+unfolding applied
 returns-10 c =
-    let s = c .before .before .before .before .before in
-    (rw (toZ-ofZ (s .fits .a), toZ-ofZ (s .fits .x), toZ-ofZ (s .fits .b), toZ-ofZ (s .fits .y)) at (c .comparison .ensures)) ∙ ap rootOf (whole-third _ _ _ _ (omega arith) (to-12 _ (c .before .if3 .taken)))
+    let s = c .before .before in
+    rw (c .before .match .keys10) (rw (toZ-ofZ (s .fits .a), toZ-ofZ (s .fits .x), toZ-ofZ (s .fits .b), toZ-ofZ (s .fits .y)) at (c .minus .ensures))
 
 returns-11 : tie.Need-returns-11
+unfolding applied
 returns-11 c =
-    let r = c .before .before .before .before .match .rest in
-    c .an-error .ensures ∙ ap rootOf (no-function _ _ _ _ (from-15 _ (c .before .if3 .left) (r .0 .1) (r .1)))
+    let s = c .before .before in
+    rw (c .before .match .keys11) (rw (toZ-ofZ (s .fits .a), toZ-ofZ (s .fits .x), toZ-ofZ (s .fits .b), toZ-ofZ (s .fits .y)) at (c .equal .ensures))
+
+returns-12 : tie.Need-returns-12
+unfolding applied
+returns-12 c =
+    let s = c .before .before in
+    rw (c .before .match .keys12) (rw (toZ-ofZ (s .fits .a), toZ-ofZ (s .fits .x), toZ-ofZ (s .fits .b), toZ-ofZ (s .fits .y)) at (c .at-most .ensures))
+
+returns-13 : tie.Need-returns-13
+unfolding applied
+returns-13 c =
+    let s = c .before .before in
+    rw (c .before .match .keys13) (rw (toZ-ofZ (s .fits .a), toZ-ofZ (s .fits .x), toZ-ofZ (s .fits .b), toZ-ofZ (s .fits .y)) at (c .less .ensures))
+
+returns-14 : tie.Need-returns-14
+unfolding applied
+returns-14 c =
+    let s = c .before .before in
+    rw (c .before .match .keys14) (rw (toZ-ofZ (s .fits .a), toZ-ofZ (s .fits .x), toZ-ofZ (s .fits .b), toZ-ofZ (s .fits .y)) at (c .same-symbol .ensures))
+
+returns-15 : tie.Need-returns-15
+unfolding applied
+returns-15 c =
+    let s = c .before .before in
+    rw (c .before .match .keys15) (rw (toZ-ofZ (s .fits .a), toZ-ofZ (s .fits .x), toZ-ofZ (s .fits .b), toZ-ofZ (s .fits .y), toZ-ofZ (s .fits .c), toZ-ofZ (s .fits .z)) at (c .share .ensures))
+
+returns-16 : tie.Need-returns-16
+returns-16 c = c .an-error .ensures ∙ ap rootOf (no-function _ _ _ _ (c .before .match .rest))
 
 pub apply-spec : {M : Type 1} → statement M
 apply-spec =
@@ -133,13 +152,18 @@ apply-spec =
     a-truth-requires
     a-truth-requires-2
     neg-requires
+    conjunction-requires
+    disjunction-requires
+    equal-truths-requires
     a-truth-requires-3
     a-truth-requires-4
+    plus-requires
+    minus-requires
+    equal-requires
+    at-most-requires
+    less-requires
     same-symbol-requires
     share-requires
-    logic-requires
-    arithmetic-requires
-    comparison-requires
     an-error-requires
     returns
     returns-2
@@ -151,4 +175,9 @@ apply-spec =
     returns-8
     returns-9
     returns-10
-    returns-11)
+    returns-11
+    returns-12
+    returns-13
+    returns-14
+    returns-15
+    returns-16)
