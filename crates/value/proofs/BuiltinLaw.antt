@@ -8,7 +8,7 @@ use lib.Dec.{eqb, leb}
 use lib.ListN.{length, List·getD-eq-default}
 use lib.IntN.{ℤ, pos, negsuc, _*ℤ_}
 use lib.Signed.{mag, ltZ, quotZ}
-use borrow.Author.Tests.{ltb-true, ltb-false, le-leb, lt-leb, eq-eqb, ne-eqb}
+use borrow.Author.Tests.{ltb-true, ltb-false, le-leb, lt-leb, ne-eqb}
 use mir.Syntax.{w64}
 use mir.Val.{SFits, toZ, ofZ}
 use mir.Facts.{toZ-ofZ}
@@ -16,7 +16,7 @@ use Rattle.minuska.specs.Term.{Label, error, truth, whole, symbol, Term}
 use Rattle.minuska.specs.Basics.{_>>=_, present, provided, sameWhole}
 use Rattle.minuska.specs.Function.{asTruth, asWhole, asSymbol, wrongKind, orWrongKind, inWord, wholeTerm, shareRange, shareOf, Function, functions, noFunction}
 use Rattle.value.specs.Builtin.{unsigned, labelAt, rootOf, leaves, applied}
-use Rattle.value.proofs.Shift.{eq-bits}
+use Rattle.value.proofs.Shift.{eq-bits, word-is, word-not}
 
 -- ---- the kinds that functions ask for: the tag, a label read as one of the kind, what a datum says, and that the tag decides
 unsigned-is : (z : ℤ) → unsigned z ≡ ofZ w64 z
@@ -80,15 +80,15 @@ module _ {A : Type 0} (k : Kind A) where
   abbrev pub onThree : (A → A → A → Term) → Label → Label → Label → Term
   onThree f l m n = orWrongKind (k .read l >>= λ x. k .read m >>= λ y. k .read n >>= λ z. some (f x y z))
 
--- ---- a tag compared as a word
+-- ---- a tag compared with a kind's
 pub tag-seen : (t : ℤ) (n : ℕ) → SFits w64 t → n < 2 ^ 63 → eqb (ofZ w64 t) n ≡ sameWhole t (pos n)
 tag-seen t n f h = eq-bits t (pos n) (f .sfits) h
 
 pub tag-is : (t : ℤ) (n : ℕ) → SFits w64 t → n < 2 ^ 63 → ofZ w64 t ≡ n → sameWhole t (pos n) ≡ true
-tag-is t n f h e = sym (tag-seen t n f h) ∙ eq-eqb (ofZ w64 t) n e
+tag-is t n f h e = word-is t (pos n) f (record { sfits = h }) e
 
 pub tag-not : (t : ℤ) (n : ℕ) → SFits w64 t → n < 2 ^ 63 → (ofZ w64 t ≡ n → ⊥) → sameWhole t (pos n) ≡ false
-tag-not t n f h e = sym (tag-seen t n f h) ∙ ne-eqb (ofZ w64 t) n e
+tag-not t n f h e = word-not t (pos n) f (record { sfits = h }) e
 
 -- ---- a function's value, from tests of the tags
 module _ {A : Type 0} (k : Kind A) (a x : ℤ) where

@@ -118,6 +118,13 @@ eq-bits (pos a) (negsuc b) f g = ne-eqb a (2 ^ 64 - suc b) (λ h. omega arith)
 eq-bits (negsuc a) (pos b) f g = ne-eqb (2 ^ 64 - suc a) b (λ h. omega arith)
 eq-bits (negsuc a) (negsuc b) f g = bits-eq a b f g (eqb a b) refl
 
+-- two words compared
+pub word-is : (a b : ℤ) → SFits w64 a → SFits w64 b → ofZ w64 a ≡ ofZ w64 b → sameWhole a b ≡ true
+word-is a b f g e = sym (eq-bits a b (f .sfits) (g .sfits)) ∙ eq-eqb (ofZ w64 a) (ofZ w64 b) e
+
+pub word-not : (a b : ℤ) → SFits w64 a → SFits w64 b → (ofZ w64 a ≡ ofZ w64 b → ⊥) → sameWhole a b ≡ false
+word-not a b f g e = sym (eq-bits a b (f .sfits) (g .sfits)) ∙ ne-eqb (ofZ w64 a) (ofZ w64 b) e
+
 pub up-lt : (a : ℤ) → mag a < 2 ^ 63 → up a < 2 ^ 64
 unfolding up
 up-lt (pos a) f = omega arith

@@ -3,12 +3,12 @@ use term::SYMBOL;
 use term::TRUTH;
 use term::WHOLE;
 ghost use mathlib.Core.Path.{_≡_};
-ghost use mathlib.Core.Bool.{_&&_};
+ghost use mathlib.Core.Bool.{_&&_, cond};
 ghost use lib.Dec.{leb};
 ghost use lib.IntN.{natAbs, _+ℤ_, _-ℤ_};
 ghost use Rattle.minuska.specs.Basics.{sameWhole};
 ghost use Rattle.minuska.specs.Term.{error, truth, whole};
-ghost use Rattle.minuska.specs.Function.{inWord, wholeTerm, shareRange, shareOf};
+ghost use Rattle.minuska.specs.Function.{wrongKind, truthTerm, inWord, wholeTerm, shareRange, shareOf};
 ghost use Rattle.value.specs.Builtin.{labelAt, rootOf, applied};
 
 // The root of a term: the two words of its first node. The gap lies between them: they are written one by one, and would else be read back as one, for which a
@@ -27,16 +27,16 @@ pub fn apply(code: usize, a: i64, x: i64, b: i64, y: i64, c: i64, z: i64) -> Roo
         0 => a_truth(true),
         1 => a_truth(false),
         2 => neg(a, x),
-        3 => conjunction(a, x, b, y),
-        4 => disjunction(a, x, b, y),
-        5 => equal_truths(a, x, b, y),
+        3 => truth_of_two(TRUTH, a, b, (x == 1) & (y == 1)),
+        4 => truth_of_two(TRUTH, a, b, (x == 1) | (y == 1)),
+        5 => truth_of_two(TRUTH, a, b, (x == 1) == (y == 1)),
         6 => a_truth(a == TRUTH),
         7 => a_truth(a == WHOLE),
         8 => plus(a, x, b, y),
         9 => minus(a, x, b, y),
-        10 => equal(a, x, b, y),
-        11 => at_most(a, x, b, y),
-        12 => less(a, x, b, y),
+        10 => truth_of_two(WHOLE, a, b, x == y),
+        11 => truth_of_two(WHOLE, a, b, x <= y),
+        12 => truth_of_two(WHOLE, a, b, x < y),
         13 => same_symbol(a, x, b, y),
         14 => share(a, x, b, y, c, z),
         _ => an_error(),
@@ -98,34 +98,17 @@ pub fn both(kind: i64, a: i64, b: i64) -> bool
     (a == kind) & (b == kind)
 }
 
-// bool.and.
-pub fn conjunction(a: i64, x: i64, b: i64, y: i64) -> Root
-    ensures { λ r. ⌜ r ≡ rootOf (applied 3 (labelAt a x) (labelAt b y) error) ⌝ }
+// A truth value, on two arguments of a kind. It makes two tests of its own: with `both` it is compiled to compute either answer and to choose.
+pub fn truth_of_two(kind: i64, a: i64, b: i64, holds: bool) -> Root
+    ensures { λ r. ⌜ r ≡ rootOf (cond (sameWhole a kind && sameWhole b kind) (truthTerm holds) wrongKind .label) ⌝ }
 {
-    if both(TRUTH, a, b) {
-        return a_truth((x == 1) & (y == 1));
+    if a != kind {
+        return an_error();
     }
-    an_error()
-}
-
-// bool.or.
-pub fn disjunction(a: i64, x: i64, b: i64, y: i64) -> Root
-    ensures { λ r. ⌜ r ≡ rootOf (applied 4 (labelAt a x) (labelAt b y) error) ⌝ }
-{
-    if both(TRUTH, a, b) {
-        return a_truth((x == 1) | (y == 1));
+    if b != kind {
+        return an_error();
     }
-    an_error()
-}
-
-// bool.eq.
-pub fn equal_truths(a: i64, x: i64, b: i64, y: i64) -> Root
-    ensures { λ r. ⌜ r ≡ rootOf (applied 5 (labelAt a x) (labelAt b y) error) ⌝ }
-{
-    if both(TRUTH, a, b) {
-        return a_truth((x == 1) == (y == 1));
-    }
-    an_error()
+    a_truth(holds)
 }
 
 // z.plus.
@@ -185,36 +168,6 @@ pub fn difference_fits(a: i64, b: i64) -> bool
         return a <= 9223372036854775807 + b;
     }
     -9223372036854775808 + b <= a
-}
-
-// z.eq.
-pub fn equal(a: i64, x: i64, b: i64, y: i64) -> Root
-    ensures { λ r. ⌜ r ≡ rootOf (applied 10 (labelAt a x) (labelAt b y) error) ⌝ }
-{
-    if both(WHOLE, a, b) {
-        return a_truth(x == y);
-    }
-    an_error()
-}
-
-// z.le.
-pub fn at_most(a: i64, x: i64, b: i64, y: i64) -> Root
-    ensures { λ r. ⌜ r ≡ rootOf (applied 11 (labelAt a x) (labelAt b y) error) ⌝ }
-{
-    if both(WHOLE, a, b) {
-        return a_truth(x <= y);
-    }
-    an_error()
-}
-
-// z.lt.
-pub fn less(a: i64, x: i64, b: i64, y: i64) -> Root
-    ensures { λ r. ⌜ r ≡ rootOf (applied 12 (labelAt a x) (labelAt b y) error) ⌝ }
-{
-    if both(WHOLE, a, b) {
-        return a_truth(x < y);
-    }
-    an_error()
 }
 
 // term.same_symbol.

@@ -1,10 +1,14 @@
-use mathlib.Core.Path.{ap, _∙_}
-use mathlib.Core.Bool.{Bool}
+use mathlib.Core.Path.{refl, ap, _∙_}
+use mathlib.Core.Bool.{Bool, Bool·beq, _&&_, _||_}
 use lib.Dec.{lit<}
+use lib.Signed.{leZ, ltZ}
 use mir.Facts.{toZ-ofZ}
+use Rattle.minuska.specs.Basics.{sameWhole}
 use Rattle.minuska.specs.Term.{truth}
+use Rattle.minuska.specs.Function.{truthTerm}
 use Rattle.value.specs.Builtin.{rootOf, applied}
-use Rattle.value.proofs.BuiltinLaw.{truths, wholes, tag-seen, is-there, no-function}
+use Rattle.value.proofs.Shift.{eq-bits}
+use Rattle.value.proofs.BuiltinLaw.{truths, wholes, tag-seen, is-there, two-value, no-function}
 use Rattle.value.proofs.builtin.apply.Statement.{statement}
 use Rattle.value.proofs.builtin.apply.Tie as tie
 
@@ -17,14 +21,14 @@ a-truth-requires-2 c κs = tt
 neg-requires : tie.Need-neg-requires
 neg-requires c κs = tt
 
-conjunction-requires : tie.Need-conjunction-requires
-conjunction-requires c κs = tt
+truth-of-two-requires : tie.Need-truth-of-two-requires
+truth-of-two-requires c κs = tt
 
-disjunction-requires : tie.Need-disjunction-requires
-disjunction-requires c κs = tt
+truth-of-two-requires-2 : tie.Need-truth-of-two-requires-2
+truth-of-two-requires-2 c κs = tt
 
-equal-truths-requires : tie.Need-equal-truths-requires
-equal-truths-requires c κs = tt
+truth-of-two-requires-3 : tie.Need-truth-of-two-requires-3
+truth-of-two-requires-3 c κs = tt
 
 a-truth-requires-3 : tie.Need-a-truth-requires-3
 a-truth-requires-3 c κs = tt
@@ -38,14 +42,14 @@ plus-requires c κs = tt
 minus-requires : tie.Need-minus-requires
 minus-requires c κs = tt
 
-equal-requires : tie.Need-equal-requires
-equal-requires c κs = tt
+truth-of-two-requires-4 : tie.Need-truth-of-two-requires-4
+truth-of-two-requires-4 c κs = tt
 
-at-most-requires : tie.Need-at-most-requires
-at-most-requires c κs = tt
+truth-of-two-requires-5 : tie.Need-truth-of-two-requires-5
+truth-of-two-requires-5 c κs = tt
 
-less-requires : tie.Need-less-requires
-less-requires c κs = tt
+truth-of-two-requires-6 : tie.Need-truth-of-two-requires-6
+truth-of-two-requires-6 c κs = tt
 
 same-symbol-requires : tie.Need-same-symbol-requires
 same-symbol-requires c κs = tt
@@ -74,19 +78,19 @@ returns-4 : tie.Need-returns-4
 unfolding applied
 returns-4 c =
     let s = c .before .before in
-    rw (c .before .match .keys4) (rw (toZ-ofZ (s .fits .a), toZ-ofZ (s .fits .x), toZ-ofZ (s .fits .b), toZ-ofZ (s .fits .y)) at (c .conjunction .ensures))
+    rw (c .before .match .keys4) (c .truth-of-two .ensures ∙ two-value truths (s .args .x) (s .args .y) (s .fits .a) (s .fits .b) refl (λ x y. truthTerm (x && y)) _ refl)
 
 returns-5 : tie.Need-returns-5
 unfolding applied
 returns-5 c =
     let s = c .before .before in
-    rw (c .before .match .keys5) (rw (toZ-ofZ (s .fits .a), toZ-ofZ (s .fits .x), toZ-ofZ (s .fits .b), toZ-ofZ (s .fits .y)) at (c .disjunction .ensures))
+    rw (c .before .match .keys5) (c .truth-of-two2 .ensures ∙ two-value truths (s .args .x) (s .args .y) (s .fits .a) (s .fits .b) refl (λ x y. truthTerm (x || y)) _ refl)
 
 returns-6 : tie.Need-returns-6
 unfolding applied
 returns-6 c =
     let s = c .before .before in
-    rw (c .before .match .keys6) (rw (toZ-ofZ (s .fits .a), toZ-ofZ (s .fits .x), toZ-ofZ (s .fits .b), toZ-ofZ (s .fits .y)) at (c .equal-truths .ensures))
+    rw (c .before .match .keys6) (c .truth-of-two3 .ensures ∙ two-value truths (s .args .x) (s .args .y) (s .fits .a) (s .fits .b) refl (λ x y. truthTerm (Bool·beq x y)) _ refl)
 
 returns-7 : tie.Need-returns-7
 unfolding applied
@@ -116,19 +120,19 @@ returns-11 : tie.Need-returns-11
 unfolding applied
 returns-11 c =
     let s = c .before .before in
-    rw (c .before .match .keys11) (rw (toZ-ofZ (s .fits .a), toZ-ofZ (s .fits .x), toZ-ofZ (s .fits .b), toZ-ofZ (s .fits .y)) at (c .equal .ensures))
+    rw (c .before .match .keys11) ((rw (eq-bits (s .args .x) (s .args .y) (s .fits .x .sfits) (s .fits .y .sfits)) at (c .truth-of-two4 .ensures)) ∙ two-value wholes (s .args .x) (s .args .y) (s .fits .a) (s .fits .b) refl (λ x y. truthTerm (sameWhole x y)) _ refl)
 
 returns-12 : tie.Need-returns-12
 unfolding applied
 returns-12 c =
     let s = c .before .before in
-    rw (c .before .match .keys12) (rw (toZ-ofZ (s .fits .a), toZ-ofZ (s .fits .x), toZ-ofZ (s .fits .b), toZ-ofZ (s .fits .y)) at (c .at-most .ensures))
+    rw (c .before .match .keys12) ((rw (toZ-ofZ (s .fits .x), toZ-ofZ (s .fits .y)) at (c .truth-of-two5 .ensures)) ∙ two-value wholes (s .args .x) (s .args .y) (s .fits .a) (s .fits .b) refl (λ x y. truthTerm (leZ x y)) _ refl)
 
 returns-13 : tie.Need-returns-13
 unfolding applied
 returns-13 c =
     let s = c .before .before in
-    rw (c .before .match .keys13) (rw (toZ-ofZ (s .fits .a), toZ-ofZ (s .fits .x), toZ-ofZ (s .fits .b), toZ-ofZ (s .fits .y)) at (c .less .ensures))
+    rw (c .before .match .keys13) ((rw (toZ-ofZ (s .fits .x), toZ-ofZ (s .fits .y)) at (c .truth-of-two6 .ensures)) ∙ two-value wholes (s .args .x) (s .args .y) (s .fits .a) (s .fits .b) refl (λ x y. truthTerm (ltZ x y)) _ refl)
 
 returns-14 : tie.Need-returns-14
 unfolding applied
@@ -152,16 +156,16 @@ apply-spec =
     a-truth-requires
     a-truth-requires-2
     neg-requires
-    conjunction-requires
-    disjunction-requires
-    equal-truths-requires
+    truth-of-two-requires
+    truth-of-two-requires-2
+    truth-of-two-requires-3
     a-truth-requires-3
     a-truth-requires-4
     plus-requires
     minus-requires
-    equal-requires
-    at-most-requires
-    less-requires
+    truth-of-two-requires-4
+    truth-of-two-requires-5
+    truth-of-two-requires-6
     same-symbol-requires
     share-requires
     an-error-requires
