@@ -3,10 +3,10 @@ use mathlib.Core.Path.{_≡_, refl, sym, _∙_, ap, subst, subst⁻¹}
 use mathlib.Core.Bool.{_&&_}
 use mathlib.Core.Option.{none, some, Option·some-injective, Option·none-ne-some}
 use mathlib.Core.List.{List}
-use Prim.Native.Nat.{ℕ, zero, suc, _<_, _≤_}
+use Prim.Native.Nat.{ℕ, zero, suc, _^_, _<_, _≤_}
 use native.Mathlib.Omega.{arith}
 use native.Mathlib.Decide.{ℕ-discrete}
-use lib.Dec.{T, leb}
+use lib.Dec.{T, leb, leb→le}
 use lib.IntN.{ℤ}
 use lib.ListN.{length, getD, replicate}
 use Rattle.minuska.specs.Term.{Forest, nil, node, Term, single, nodeCount, isGround}
@@ -17,6 +17,7 @@ use Rattle.minuska.specs.Computed.Match.{unbound, tryMatch}
 use Rattle.minuska.specs.Bridge.Place.{Stands, BoundAt, Binds}
 use Rattle.minuska.proofs.Tests.{and-left, and-right}
 use Rattle.minuska.proofs.Bridge.PlaceLaw.{stands-whole}
+use Rattle.minuska.proofs.WordLaw.{encode-length}
 use Rattle.minuska.proofs.MatchLaw.{match-sound, match-complete}
 use Rattle.step.specs.declared.how_far.HowFar.the-variants.{All, Until}
 use Rattle.step.specs.Compare.{Comparison, apart, comparison, passedBy, boundBy}
@@ -40,6 +41,10 @@ module _ {config : List ℤ} {g : Term} (y : IsConfiguration config g) where
 
   ground-ground : T (isGround (single g))
   ground-ground = and-right (ok (single g)) (isGround (single g)) both-ground
+
+  -- its places are numbers of 32 bits
+  pub few-words : length config < 2 ^ 32
+  few-words = omega (arith, ap length (y .words), encode-length (single g), leb→le (nodeCount g) maxNodes (and-right (ok (single g) && isGround (single g)) (leb (nodeCount g) maxNodes) (y .accepted)))
 
 -- at the first words nothing is bound
 pub begins : {table : List ℤ} {at end : ℕ} {config : List ℤ} (starts : List ℕ) {l g : Term} → IsLeft table at end l → IsConfiguration config g → Walking table end config 0 at 0 starts (replicate 16 0) (comparison l g)

@@ -161,33 +161,35 @@ module _ {table : List ℤ} {end : ℕ} {config : List ℤ} {i j : ℕ} {starts 
 
 -- ---- what one turn answers at a variable
 module _ {table : List ℤ} {i end : ℕ} {config : List ℤ} {j : ℕ} {starts ends : List ℕ} {v : ℕ} (three : word table i ≡ pos variableTag) (number : v ≡ natAbs (word table (i + 1))) where
-  pub turned-bind : getD ends v 0 ≡ 0 → {e : ℕ} → GroundEnds config j e → LeftTurned table i end config j starts ends (Bind v e)
-  turned-bind z {e} t =
-      record { after = λ n o h w. at-variable w h three number λ lss g gs gss σ low d k. let x = found v lss g gs gss σ k in let a = t .ends (x .term) (x .good) (x .ground) (x .stands) in (low, omega (arith, a), after-bind v lss g gs gss σ k low e z a) }
+  pub turned-bind : {to : ℕ} → to ≡ getD ends v 0 → to ≡ 0 → {e : ℕ} → GroundEnds config j e → LeftTurned table i end config j starts ends (Bind v e)
+  turned-bind r z {e} t =
+      record { after = λ n o h w. at-variable w h three number λ lss g gs gss σ low d k. let x = found v lss g gs gss σ k in let a = t .ends (x .term) (x .good) (x .ground) (x .stands) in (low, omega (arith, a), omega (arith, a, x .stands .within), after-bind v lss g gs gss σ k low e (sym r ∙ z) a) }
 
-  module _ (z : getD ends v 0 ≡ 0 → ⊥) {e : ℕ} (at : e ≡ j + (getD ends v 0 - getD starts v 0)) where
-    pub turned-again : e ≤ length config → part config (getD starts v 0) (getD ends v 0) ≡ part config j e → LeftTurned table i end config j starts ends (Again e)
-    turned-again h same =
-        record { after = λ n o m w. at-variable w m three number λ lss g gs gss σ low d k. let x = has-part k v z in after-again v lss g gs gss σ k (x .0) (x .1) e at h same }
+  -- a part from a start to an end that were read in the arrays
+  module _ {from to : ℕ} (start : from ≡ getD starts v 0) (stop : to ≡ getD ends v 0) (z : to ≡ 0 → ⊥) where
+    module _ {e : ℕ} (at : e ≡ j + (to - from)) where
+      pub turned-again : e ≤ length config → part config from to ≡ part config j e → LeftTurned table i end config j starts ends (Again e)
+      turned-again h same =
+          record { after = λ n o m w. at-variable w m three number λ lss g gs gss σ low d k. let x = has-part k v (λ q. z (stop ∙ q)) in after-again v lss g gs gss σ k (x .0) (x .1) e (rw (← stop, ← start) at) h (rw (← stop, ← start) same) }
 
-    pub turned-differs : (part config (getD starts v 0) (getD ends v 0) ≡ part config j e → ⊥) → LeftTurned table i end config j starts ends Misfit
-    turned-differs f =
-        record { after = λ n o m w. at-variable w m three number λ lss g gs gss σ low d k. let x = has-part k v z in after-other-words v lss g gs gss σ k (x .0) (x .1) e at f }
+      pub turned-differs : (part config from to ≡ part config j e → ⊥) → LeftTurned table i end config j starts ends Misfit
+      turned-differs f =
+          record { after = λ n o m w. at-variable w m three number λ lss g gs gss σ low d k. let x = has-part k v (λ q. z (stop ∙ q)) in after-other-words v lss g gs gss σ k (x .0) (x .1) e (rw (← stop, ← start) at) (λ q. f (rw (stop, start) q)) }
 
-    pub turned-long : length config < e → LeftTurned table i end config j starts ends Misfit
-    turned-long h =
-        record { after = λ n o m w. at-variable w m three number λ lss g gs gss σ low d k. let x = has-part k v z in after-long v lss g gs gss σ k (x .0) (x .1) e at h }
+      pub turned-long : length config < e → LeftTurned table i end config j starts ends Misfit
+      turned-long h =
+          record { after = λ n o m w. at-variable w m three number λ lss g gs gss σ low d k. let x = has-part k v (λ q. z (stop ∙ q)) in after-long v lss g gs gss σ k (x .0) (x .1) e (rw (← stop, ← start) at) h }
 
-  -- the variable's number is below 16, and its part, if it has one, lies in the configuration
-  module _ (t : TurnFrom table i end config j starts ends) where
-    pub number-fits : T (nonNeg (word table (i + 1))) × (v < variables)
-    number-fits = at-variable (t .walking) (t .before) three number λ lss g gs gss σ low d k. (subst⁻¹ (λ (y : ℤ). T (nonNeg y)) d tt, low)
-
-    pub part-within : (getD ends v 0 ≡ 0 → ⊥) → (getD starts v 0 ≤ getD ends v 0) × (getD ends v 0 ≤ length config)
-    part-within z =
+    -- it lies in the configuration
+    pub part-within : TurnFrom table i end config j starts ends → (from ≤ to) × (to ≤ length config)
+    part-within t =
         at-variable (t .walking) (t .before) three number λ lss g gs gss σ low d k.
-        let x = has-part k v z in
+        let x = has-part k v (λ q. z (stop ∙ q)) in
         let b = bound v lss g gs gss σ k (x .0) (x .1) in
         let y = b .stands .within in
         let q = b .ends in
         (omega arith, omega arith)
+
+  -- the variable's number is below 16
+  pub number-fits : TurnFrom table i end config j starts ends → T (nonNeg (word table (i + 1))) × (v < variables)
+  number-fits t = at-variable (t .walking) (t .before) three number λ lss g gs gss σ low d k. (subst⁻¹ (λ (y : ℤ). T (nonNeg y)) d tt, low)

@@ -3,7 +3,7 @@ use mathlib.Core.Path.{_≡_}
 use mathlib.Core.Logic.{_↔_}
 use mathlib.Core.Option.{none, some}
 use mathlib.Core.List.{List}
-use Prim.Native.Nat.{ℕ, _+_, _<_}
+use Prim.Native.Nat.{ℕ, _+_, _<_, _≤_}
 use lib.IntN.{ℤ}
 use lib.Dec.{T}
 use lib.ListN.{length, getD}
@@ -83,7 +83,7 @@ pub record TurnFrom (table : List ℤ) (i end : ℕ) (config : List ℤ) (j : �
 abbrev pub After : List ℤ → ℕ → List ℤ → ℕ → ℕ → ℕ → List ℕ → List ℕ → Comparison → LeftTurn → Type 0
 After table end config n i j starts ends o Same = Walking table end config (n + 1) (i + 2) (j + 2) starts ends o
 After table end config n i j starts ends o (Bind v e) =
-    (v < 16) × (0 < e) × ((starts′ ends′ : List ℕ) → Put starts starts′ v j → Put ends ends′ v e → Walking table end config (n + 1) (i + 2) e starts′ ends′ o)
+    (v < 16) × (0 < e) × (e ≤ length config) × ((starts′ ends′ : List ℕ) → Put starts starts′ v j → Put ends ends′ v e → Walking table end config (n + 1) (i + 2) e starts′ ends′ o)
 After table end config n i j starts ends o (Again e) = Walking table end config (n + 1) (i + 2) e starts ends o
 After table end config n i j starts ends o Misfit = o ≡ apart n
 

@@ -73,8 +73,8 @@ fn apply_among<'a>(
     requires { ⌜ Names (now table) first × Positions (now table) to × (from ≤ to) ⌝ }
     ensures { λ r. ⌜ AmongIs (now (table .entry)) (now (configuration .entry)) first from to (now (out .entry)) (now (out .exit)) r ⌝ }
 {
-    let mut starts = [0usize; VARIABLES];
-    let mut ends = [0usize; VARIABLES];
+    let mut starts = [0u32; VARIABLES];
+    let mut ends = [0u32; VARIABLES];
     let mut rule = first;
     let mut i = from;
     loop {

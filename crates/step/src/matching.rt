@@ -3,7 +3,7 @@ use crate::how_far::HowFar;
 use term::Places;
 use term::VARIABLES;
 ghost use mathlib.Core.Path.{_≡_};
-ghost use Prim.Native.Nat.{_<_};
+ghost use Prim.Native.Nat.{_^_, _<_};
 ghost use lib.ListN.{length};
 ghost use Rattle.minuska.specs.Bridge.Place.{Accepted};
 ghost use Rattle.step.specs.Matching.{LeftIn, MatchContract, TurnFrom, LeftTurned, Put};
@@ -46,7 +46,7 @@ fn turn_at(
         return LeftTurn::Same;
     }
     let v = d as usize;
-    let to = ends[v];
+    let to = term::place_of(ends, v);
     if to == 0 {
         if i + 2 == end {
             return LeftTurn::Bind(v, configuration.len());
@@ -54,7 +54,7 @@ fn turn_at(
         let e = term::ground_end(configuration, j);
         return LeftTurn::Bind(v, e);
     }
-    let from = starts[v];
+    let from = term::place_of(starts, v);
     let e = j + (to - from);
     if configuration.len() < e {
         return LeftTurn::Misfit;
@@ -67,12 +67,12 @@ fn turn_at(
     }
 }
 
-// One number of an array.
-fn put(s: &mut [usize], v: usize, x: usize)
-    requires { ⌜ v < length (now s) ⌝ }
+// One number of an array: a place in a configuration.
+fn put(s: &mut [u32], v: usize, x: usize)
+    requires { ⌜ (v < length (now s)) × (x < 2 ^ 32) ⌝ }
     ensures { λ _. ⌜ Put (now (s .entry)) (now (s .exit)) v x ⌝ }
 {
-    s[v] = x;
+    s[v] = x as u32;
 }
 
 // Matches the left that stands in table[at..end] against the whole configuration: how many of its nodes agree. The parts of its variables go to starts and ends.
@@ -88,7 +88,7 @@ pub fn match_left(
     requires { ⌜ Accepted (now configuration) ⌝ }
     ensures { λ r. ⌜ MatchContract (now (table .entry)) at end (now (configuration .entry)) (now (starts .entry)) (now (starts .exit)) (now (ends .exit)) r ⌝ }
 {
-    *ends = [0usize; VARIABLES];
+    *ends = [0u32; VARIABLES];
     let mut i = at;
     let mut j: usize = 0;
     while i < end {

@@ -13,8 +13,8 @@ pub fn piece(table: &[i64], at: usize, starts: &Places, ends: &Places) -> Evalua
 {
     if term::word(table, at) == term::VARIABLE {
         let v = term::word(table, at + 1) as usize;
-        let from = starts[v];
-        let to = ends[v];
+        let from = term::place_of(starts, v);
+        let to = term::place_of(ends, v);
         return Evaluated {
             value: Value::Configuration(from, to),
             next: at + 2,

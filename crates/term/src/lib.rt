@@ -8,6 +8,7 @@ ghost use Rattle.minuska.specs.Bridge.Place.{GroundAt, GroundEnds};
 ghost use Rattle.minuska.specs.Computed.Read.{plainChildren};
 ghost use Rattle.minuska.specs.Contract.{CheckConfigurationContract, SubtermContract};
 ghost use Rattle.minuska.specs.Function.{functions};
+ghost use Rattle.minuska.specs.Word.{variables};
 ghost use Rattle.term.specs.TermAt.{TermAt, TermEnds, NodeWords};
 ghost use Rattle.term.specs.TermEnd.{arityOf, childrenOf};
 
@@ -36,8 +37,8 @@ pub const FUNCTIONS: usize = 15;
 
 pub const SYMBOLS: i64 = 4096;
 
-// A number for each variable: where the parts of a match start, or where they end.
-pub type Places = [usize; VARIABLES];
+// A number for each variable: where the parts of a match start, or where they end. A configuration's places have 17 bits: in 32 the array is cleared with half the stores of 64.
+pub type Places = [u32; VARIABLES];
 
 // The place behind what a walk has taken, or that it found something else.
 pub enum Place {
@@ -51,6 +52,20 @@ pub fn word(s: &[i64], i: usize) -> i64
     ensures { λ r. ⌜ r ≡ getD (now (s .entry)) i (pos 0) ⌝ }
 {
     s[i]
+}
+
+// A variable's number.
+pub fn place_of(places: &Places, v: usize) -> usize
+    requires { ⌜ v < variables ⌝ }
+    ensures { λ r. ⌜ r ≡ getD (now (places .entry)) v 0 ⌝ }
+{
+    wide(places[v])
+}
+
+fn wide(x: u32) -> usize
+    ensures { λ r. ⌜ r ≡ x ⌝ }
+{
+    x as usize
 }
 
 // The arity of a function.

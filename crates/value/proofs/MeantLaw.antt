@@ -85,11 +85,12 @@ module _ (table config : List ℤ) where
     placed : (e t : Term) (r : Evaluated) (y : Role) → role (e .label) ≡ y → Where table config starts ends at y t r → Where table config starts ends at (role (e .label)) t r
     placed e t r y q w = subst⁻¹ (λ (z : Role). Where table config starts ends at z t r) q w
 
-    pub variable-meant : (e t : Term) (v : VariableHere table config starts ends at ρ e t) (i : ℕ) → i ≡ v .number → Meant table config starts ends at e t (record { value = Configuration (getD starts i 0) (getD ends i 0); next = at + 2 })
-    variable-meant e t v i q =
+    -- a variable's, from its number and what was read in the arrays there
+    pub variable-meant : (e t : Term) (v : VariableHere table config starts ends at ρ e t) (i : ℕ) → i ≡ v .number → (from to : ℕ) → from ≡ getD starts i 0 → to ≡ getD ends i 0 → Meant table config starts ends at e t (record { value = Configuration from to; next = at + 2 })
+    variable-meant e t v i q from to start stop =
         let b = v .bound in
         let r : Evaluated = record { value = Configuration (getD starts (v .number) 0) (getD ends (v .number) 0); next = at + 2 } in
-        rw q
+        rw (start, stop, q)
         (record { is = configuration-value t _ _ (b .good) (b .ground) (b .stands) (b .ends); place = placed e t r (aVariable (v .number)) (v .role-is) refl; next = ap (λ (n : ℕ). at + n) (sym (v .long)) })
 
     pub ground-meant : (e t : Term) → HasValue table config starts ends at ρ e t → GroundHere table config starts ends at ρ e t → (r : ℕ) → r ≡ at + length (encode (single e)) → Meant table config starts ends at e t (record { value = Table at r; next = r })

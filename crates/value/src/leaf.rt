@@ -19,8 +19,8 @@ pub fn leaf(table: &[i64], at: usize, starts: &Places, ends: &Places) -> Evaluat
     let tag = term::word(table, at);
     if tag == VARIABLE {
         let v = term::word(table, at + 1) as usize;
-        let start = starts[v];
-        let end = ends[v];
+        let start = term::place_of(starts, v);
+        let end = term::place_of(ends, v);
         let next = at + 2;
         return Evaluated {
             value: Value::Configuration(start, end),

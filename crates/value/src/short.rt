@@ -44,7 +44,7 @@ fn short_root(table: &[i64], configuration: &[i64], at: usize, starts: &Places) 
 {
     if term::word(table, at) == VARIABLE {
         let v = term::word(table, at + 1) as usize;
-        let start = starts[v];
+        let start = term::place_of(starts, v);
         return root_at(configuration, start);
     }
     root_at(table, at)

@@ -1,6 +1,6 @@
 -- `match_left` meets its contract. The invariant: of every left and configuration that stand there, the walk is where `Walking` says.
 use mathlib.Core.Path.{_≡_, refl}
-use Prim.Native.Nat.{ℕ, _+_, _-_, _*_, _/_, _<_}
+use Prim.Native.Nat.{ℕ, _+_, _-_, _*_, _/_, _^_, _<_}
 use native.Mathlib.Omega.{arith}
 use borrow.Author.Needs.{needs}
 use lib.ListN.{getD}
@@ -9,7 +9,7 @@ use Rattle.minuska.specs.Rule.{IsConfiguration}
 use Rattle.step.specs.Compare.{comparison}
 use Rattle.step.specs.Matching.{IsLeft, Walking, TurnFrom}
 use Rattle.step.proofs.MatchingLaw.{room}
-use Rattle.step.proofs.MatchingAnswer.{begins, turn, ends-matched, not-matched, held, kept}
+use Rattle.step.proofs.MatchingAnswer.{few-words, begins, turn, ends-matched, not-matched, held, kept}
 use Rattle.step.proofs.matching.match_left.Statement.{statement}
 use Rattle.step.proofs.matching.match_left.Tie as tie
 
@@ -56,18 +56,26 @@ loop-again c =
 enum-known-turn : tie.Need-enum-known-turn Inv-loop μ-loop
 enum-known-turn c = search needs
 
--- a variable that is bound has a place in the arrays
+-- a variable that is bound has a place in the arrays, and its part's start and end are places of the configuration
 low : (c : tie.After-turn Inv-loop μ-loop) → (c .turn .given .0 .0 < 16) × (0 < c .turn .given .0 .1 .0)
 low c =
     let n = from (c .before .before .before .before .before) in
     let t = turn (c .before .before .turn-at .ensures) (c .turn .given .1) (n .before) (n .walking) in
     (t .0, t .1)
 
+small : (c : tie.After-turn Inv-loop μ-loop) → (c .before .before .before .before .before .before .loop .j < 2 ^ 32) × (c .turn .given .0 .1 .0 < 2 ^ 32)
+small c =
+    let l = c .before .before .before .before .before in
+    let n = from l in
+    let t = turn (c .before .before .turn-at .ensures) (c .turn .given .1) (n .before) (n .walking) in
+    let h = few-words (l .before .before .before .pre .1 .is) in
+    (omega (arith, room n .ground), omega (arith, t .2))
+
 put-requires : tie.Need-put-requires Inv-loop μ-loop
-put-requires c κs = let h = low (c .before .before) .0 in search needs
+put-requires c κs = let h = low (c .before .before) .0 in (search needs, small (c .before .before) .0)
 
 put-requires-2 : tie.Need-put-requires-2 Inv-loop μ-loop
-put-requires-2 c κs = let h = low (c .before .before .before .before) .0 in search needs
+put-requires-2 c κs = let h = low (c .before .before .before .before) .0 in (search needs, small (c .before .before .before .before) .1)
 
 loop-less-2 : tie.Need-loop-less-2 Inv-loop μ-loop
 loop-less-2 c = search needs
@@ -78,7 +86,7 @@ loop-again-2 c =
     let n = t .before .before .before .before .before in
     let ps = c .before .before .put .ensures in
     let pe = c .put2 .ensures in
-    (n .before .loop .inv .0 + 1, omega (arith, n .before .loop .inv .1), λ l g x y. turn (t .before .before .turn-at .ensures) (t .turn .given .1) (n .loop-test .taken) (n .before .loop .inv .2 l g x y) .2 (c .before .before .put .last .0) (c .put2 .last .0) ps pe, kept (n .before .before .before .args .starts .now) (low t .1) ps pe (n .before .loop .inv .3))
+    (n .before .loop .inv .0 + 1, omega (arith, n .before .loop .inv .1), λ l g x y. turn (t .before .before .turn-at .ensures) (t .turn .given .1) (n .loop-test .taken) (n .before .loop .inv .2 l g x y) .3 (c .before .before .put .last .0) (c .put2 .last .0) ps pe, kept (n .before .before .before .args .starts .now) (low t .1) ps pe (n .before .loop .inv .3))
 
 enum-known-turn-2 : tie.Need-enum-known-turn-2 Inv-loop μ-loop
 enum-known-turn-2 c = search needs

@@ -3,6 +3,9 @@ use borrow.Author.Needs.{needs}
 use Rattle.step.proofs.matching.put.Statement.{statement}
 use Rattle.step.proofs.matching.put.Tie as tie
 
+cast-s : tie.Need-cast-s
+cast-s c = record { fits = c .pre .1 }
+
 mul-s : tie.Need-mul-s
 mul-s c = search needs
 
@@ -15,7 +18,7 @@ same-length c = search needs
 returns : tie.Need-returns
 returns c =
     let s = c .args .s .now in
-    record { here = getD-set-same s (c .args .v) (c .args .x) 0 (c .pre); others = λ u f. getD-set-other s (c .args .v) u (c .args .x) 0 f }
+    record { here = getD-set-same s (c .args .v) (c .args .x) 0 (c .pre .0); others = λ u f. getD-set-other s (c .args .v) u (c .args .x) 0 f }
 
 pub put-spec : {M : Type 1} → statement M
-put-spec = tie.close (tie.spec mul-s slice-write-s same-length returns)
+put-spec = tie.close (tie.spec cast-s mul-s slice-write-s same-length returns)

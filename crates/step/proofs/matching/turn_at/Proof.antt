@@ -19,7 +19,7 @@ use Rattle.step.proofs.matching.turn_at.Tie as tie
 plain : (c : tie.Then1) → word (c .before .before .before .args .table .now) (c .before .before .before .args .i) ≡ pos 3 → ⊥
 plain c e = c .if1 .taken (ap (ofZ w64) (c .before .before .word .ensures ∙ e))
 
--- at a variable: its tag; its number, which is below 16; its part, if it has one
+-- at a variable: its tag; its number, which is below 16
 module _ (c : tie.Else1) where
   abbrev start : tie.Start
   start = c .before .before .before
@@ -45,8 +45,9 @@ module _ (c : tie.Else1) where
   low : T (nonNeg (word (start .args .table .now) (start .args .i + 1))) × (v < 16)
   low = number-fits three number (start .pre)
 
-  within : (getD (start .args .ends .now) v 0 ≡ 0 → ⊥) → (getD (start .args .starts .now) v 0 ≤ getD (start .args .ends .now) v 0) × (getD (start .args .ends .now) v 0 ≤ length (start .args .configuration .now))
-  within z = part-within three number (start .pre) z
+-- the part of a variable that has one
+within : (c : tie.After-place-of2) → (c .place-of2 .result ≤ c .before .before .place-of .result) × (c .before .before .place-of .result ≤ length (start (c .before .before .before) .args .configuration .now))
+within c = let b = c .before .before .before in part-within (three b) (number b) (c .place-of2 .ensures) (c .before .before .place-of .ensures) (c .before .if4 .left) (start b .pre)
 
 word-requires : tie.Need-word-requires
 word-requires c κs = search needs
@@ -93,11 +94,8 @@ returns-3 c =
 cast-v : tie.Need-cast-v
 cast-v c = (subst⁻¹ (λ (y : ℤ). T (nonNeg y)) (datum c) (low c .0), record { fits = omega (arith, low c .1) })
 
-mul-to : tie.Need-mul-to
-mul-to c = record { fits = omega (arith, low c .1) }
-
-element-copy-out-to : tie.Need-element-copy-out-to
-element-copy-out-to c = low c .1
+place-of-requires : tie.Need-place-of-requires
+place-of-requires c κs = low c .1
 
 add-if5 : tie.Need-add-if5
 add-if5 c = search needs
@@ -105,7 +103,7 @@ add-if5 c = search needs
 returns-4 : tie.Need-returns-4
 returns-4 c =
     let b = c .before .before .before in
-    turned-bind (three b) (number b) (c .before .if4 .taken) (last-ends (start b .pre) (c .if5 .taken))
+    turned-bind (three b) (number b) (c .before .before .place-of .ensures) (c .before .if4 .taken) (last-ends (start b .pre) (c .if5 .taken))
 
 ground-end-requires : tie.Need-ground-end-requires
 ground-end-requires c κs = ground-at (start (c .before .before .before) .pre)
@@ -113,43 +111,40 @@ ground-end-requires c κs = ground-at (start (c .before .before .before) .pre)
 returns-5 : tie.Need-returns-5
 returns-5 c =
     let b = c .before .before .before .before in
-    turned-bind (three b) (number b) (c .before .before .if4 .taken) (c .ground-end .ensures)
+    turned-bind (three b) (number b) (c .before .before .before .place-of .ensures) (c .before .before .if4 .taken) (c .ground-end .ensures)
 
-mul-from : tie.Need-mul-from
-mul-from c = record { fits = omega (arith, low (c .before .before) .1) }
-
-element-copy-out-from : tie.Need-element-copy-out-from
-element-copy-out-from c = low (c .before .before) .1
+place-of-requires-2 : tie.Need-place-of-requires-2
+place-of-requires-2 c κs = low (c .before .before) .1
 
 sub-e : tie.Need-sub-e
-sub-e c = within (c .before .before .before) (c .before .if4 .left) .0
+sub-e c = within c .0
 
 add-e : tie.Need-add-e
 add-e c =
     let z = start (c .before .before .before) in
-    let w = within (c .before .before .before) (c .before .if4 .left) in
+    let w = within c in
     let r = room (z .pre) in
     record { fits = omega (arith, w .0, w .1, r .ground, z .good .1 .1 .0 .1) }
 
 returns-6 : tie.Need-returns-6
 returns-6 c =
     let b = c .before .before .before .before in
-    turned-long (three b) (number b) (c .before .before .if4 .left) refl (c .if6 .taken)
+    turned-long (three b) (number b) (c .before .place-of2 .ensures) (c .before .before .before .place-of .ensures) (c .before .before .if4 .left) refl (c .if6 .taken)
 
 mul-same : tie.Need-mul-same
 mul-same c =
     let z = start (c .before .before .before .before) in
-    let w = within (c .before .before .before .before) (c .before .before .if4 .left) in
+    let w = within (c .before) in
     record { fits = omega (arith, w .0, w .1, z .good .1 .1 .0 .1) }
 
 sub-same : tie.Need-sub-same
-sub-same c = within (c .before .before .before .before) (c .before .before .if4 .left) .0
+sub-same c = within (c .before) .0
 
 part-same-start : tie.Need-part-same-start
-part-same-start c = within (c .before .before .before .before) (c .before .before .if4 .left) .0
+part-same-start c = within (c .before) .0
 
 part-same-end : tie.Need-part-same-end
-part-same-end c = within (c .before .before .before .before) (c .before .before .if4 .left) .1
+part-same-end c = within (c .before) .1
 
 mul-same-2 : tie.Need-mul-same-2
 mul-same-2 c = search needs
@@ -170,13 +165,13 @@ returns-7 : tie.Need-returns-7
 returns-7 c =
     let e = c .before .before .before .before in
     let b = e .before .before .before .before in
-    turned-again (three b) (number b) (e .before .before .if4 .left) refl (e .if6 .left) (c .before .same .ensures .yes (c .if7 .taken))
+    turned-again (three b) (number b) (e .before .place-of2 .ensures) (e .before .before .before .place-of .ensures) (e .before .before .if4 .left) refl (e .if6 .left) (c .before .same .ensures .yes (c .if7 .taken))
 
 returns-8 : tie.Need-returns-8
 returns-8 c =
     let e = c .before .before .before .before in
     let b = e .before .before .before .before in
-    turned-differs (three b) (number b) (e .before .before .if4 .left) refl (c .before .same .ensures .no (c .if7 .left))
+    turned-differs (three b) (number b) (e .before .place-of2 .ensures) (e .before .before .before .place-of .ensures) (e .before .before .if4 .left) refl (c .before .same .ensures .no (c .if7 .left))
 
 pub turn-at-spec : {M : Type 1} → statement M
 turn-at-spec =
@@ -192,14 +187,12 @@ turn-at-spec =
     returns-2
     returns-3
     cast-v
-    mul-to
-    element-copy-out-to
+    place-of-requires
     add-if5
     returns-4
     ground-end-requires
     returns-5
-    mul-from
-    element-copy-out-from
+    place-of-requires-2
     sub-e
     add-e
     returns-6

@@ -50,17 +50,11 @@ word-requires-2 c κs = let s = c .before .before in omega (arith, piece-within 
 cast-v : tie.Need-cast-v
 cast-v c = (subst⁻¹ (λ (y : ℤ). T (nonNeg y)) (datum c) (low c .0), record { fits = omega (arith, low c .1) })
 
-mul-from : tie.Need-mul-from
-mul-from c = record { fits = omega (arith, low c .1) }
+place-of-requires : tie.Need-place-of-requires
+place-of-requires c κs = low c .1
 
-element-copy-out-from : tie.Need-element-copy-out-from
-element-copy-out-from c = low c .1
-
-mul-to : tie.Need-mul-to
-mul-to c = record { fits = omega (arith, low (c .before) .1) }
-
-element-copy-out-to : tie.Need-element-copy-out-to
-element-copy-out-to c = low (c .before) .1
+place-of-requires-2 : tie.Need-place-of-requires-2
+place-of-requires-2 c κs = low (c .before) .1
 
 add-t11 : tie.Need-add-t11
 add-t11 c = search needs
@@ -69,13 +63,13 @@ returns : tie.Need-returns
 returns c =
     let w = c .before .before in
     let s = start w in
-    variable-is (s .args .table .now) (s .args .starts .now) (s .args .ends .now) (s .args .at) (three w) (v w) (ap natAbs (datum w))
+    rw (c .before .place-of .ensures, c .place-of2 .ensures) (variable-is (s .args .table .now) (s .args .starts .now) (s .args .ends .now) (s .args .at) (three w) (v w) (ap natAbs (datum w)))
 
-add-t18 : tie.Need-add-t18
-add-t18 c = search needs
+add-t13 : tie.Need-add-t13
+add-t13 c = search needs
 
-add-t20 : tie.Need-add-t20
-add-t20 c = search needs
+add-t15 : tie.Need-add-t15
+add-t15 c = search needs
 
 returns-2 : tie.Need-returns-2
 returns-2 c =
@@ -91,12 +85,10 @@ piece-spec =
     add-word
     word-requires-2
     cast-v
-    mul-from
-    element-copy-out-from
-    mul-to
-    element-copy-out-to
+    place-of-requires
+    place-of-requires-2
     add-t11
     returns
-    add-t18
-    add-t20
+    add-t13
+    add-t15
     returns-2)

@@ -63,17 +63,11 @@ cast-v c =
     let h = v .small in
     cast-ok w64 (c .word2 .result) (v .number) (c .word2 .ensures ∙ v .datum) (omega arith) (record { fits = omega arith })
 
-mul-start : tie.Need-mul-start
-mul-start c = let h = the-index c in omega arith
+place-of-requires : tie.Need-place-of-requires
+place-of-requires c κs = the-index c
 
-element-copy-out-start : tie.Need-element-copy-out-start
-element-copy-out-start c = the-index c
-
-mul-end : tie.Need-mul-end
-mul-end c = let h = the-index (c .before) in omega arith
-
-element-copy-out-end : tie.Need-element-copy-out-end
-element-copy-out-end c = the-index (c .before)
+place-of-requires-2 : tie.Need-place-of-requires-2
+place-of-requires-2 c κs = the-index (c .before)
 
 add-next : tie.Need-add-next
 add-next c = let h = room (c .before .before .before .before .before) in omega arith
@@ -84,7 +78,7 @@ returns c =
       over = λ config.
           evaluated _ config _ _ _ _ λ ρ e x w.
           let v = a-variable (c .before .before .before) config ρ e x w in
-          variable-meant _ _ _ _ _ ρ e x v _ (index-is (c .before .before) (v .number) (v .small) (v .datum));
+          variable-meant _ _ _ _ _ ρ e x v _ (index-is (c .before .before) (v .number) (v .small) (v .datum)) _ _ (c .before .place-of .ensures) (c .place-of2 .ensures);
     }
 
 ground-end-requires : tie.Need-ground-end-requires
@@ -110,10 +104,8 @@ leaf-spec =
     add-word
     word-requires-2
     cast-v
-    mul-start
-    element-copy-out-start
-    mul-end
-    element-copy-out-end
+    place-of-requires
+    place-of-requires-2
     add-next
     returns
     ground-end-requires

@@ -77,17 +77,14 @@ cast-v c =
     let h = v .small in
     cast-ok w64 (c .word2 .result) (v .number) (c .word2 .ensures ∙ v .datum) (omega arith) (record { fits = omega arith })
 
-mul-start : tie.Need-mul-start
-mul-start c = let h = the-index c in omega arith
-
-element-copy-out-start : tie.Need-element-copy-out-start
-element-copy-out-start c = the-index c
+place-of-requires : tie.Need-place-of-requires
+place-of-requires c κs = the-index c
 
 root-at-requires : tie.Need-root-at-requires
-root-at-requires c κs = bound (c .before) _ _ _ _ (c .before .before .before .before .pre .expression .has) .room
+root-at-requires c κs = rw (c .place-of .ensures) (bound (c .before) _ _ _ _ (c .before .before .before .before .pre .expression .has) .room)
 
 returns : tie.Need-returns
-returns c = record { over = λ ends ρ e x w. subst⁻¹ (λ (r : Root). Head r (x .label) (termCount (x .children))) (c .root-at .ensures) (bound (c .before .before) ends ρ e x w .head) }
+returns c = record { over = λ ends ρ e x w. subst⁻¹ (λ (r : Root). Head r (x .label) (termCount (x .children))) (rw (c .before .place-of .ensures) at (c .root-at .ensures)) (bound (c .before .before) ends ρ e x w .head) }
 
 root-at-requires-2 : tie.Need-root-at-requires-2
 root-at-requires-2 c κs = let h = room (c .before .before) in omega arith
@@ -110,8 +107,7 @@ short-root-spec =
     add-word
     word-requires-2
     cast-v
-    mul-start
-    element-copy-out-start
+    place-of-requires
     root-at-requires
     returns
     root-at-requires-2
