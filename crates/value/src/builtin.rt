@@ -111,63 +111,43 @@ pub fn truth_of_two(kind: i64, a: i64, b: i64, holds: bool) -> Root
     a_truth(holds)
 }
 
-// z.plus.
+// z.plus. By the room that y leaves: no sum is computed before it is known to fit. The tests stand here and not in a function of their own: so they are compiled
+// to jumps, which are foreseen.
 pub fn plus(a: i64, x: i64, b: i64, y: i64) -> Root
     ensures { λ r. ⌜ r ≡ rootOf (applied 8 (labelAt a x) (labelAt b y) error) ⌝ }
 {
-    if both(WHOLE, a, b) {
-        return sum(x, y);
+    if !both(WHOLE, a, b) {
+        return an_error();
+    }
+    if y < 0 {
+        if -9223372036854775808 - y <= x {
+            return a_whole(x + y);
+        }
+        return an_error();
+    }
+    if x <= 9223372036854775807 - y {
+        return a_whole(x + y);
     }
     an_error()
 }
 
-// A sum, if a word holds it.
-pub fn sum(a: i64, b: i64) -> Root
-    ensures { λ r. ⌜ r ≡ rootOf (wholeTerm (a +ℤ b) .label) ⌝ }
-{
-    if sum_fits(a, b) {
-        return a_whole(a + b);
-    }
-    an_error()
-}
-
-// By the room that b leaves: no sum is computed before it is known to fit.
-pub fn sum_fits(a: i64, b: i64) -> bool
-    ensures { λ r. ⌜ r ≡ inWord (a +ℤ b) ⌝ }
-{
-    if b < 0 {
-        return -9223372036854775808 - b <= a;
-    }
-    a <= 9223372036854775807 - b
-}
-
-// z.minus.
+// z.minus, in the same way.
 pub fn minus(a: i64, x: i64, b: i64, y: i64) -> Root
     ensures { λ r. ⌜ r ≡ rootOf (applied 9 (labelAt a x) (labelAt b y) error) ⌝ }
 {
-    if both(WHOLE, a, b) {
-        return difference(x, y);
+    if !both(WHOLE, a, b) {
+        return an_error();
+    }
+    if y < 0 {
+        if x <= 9223372036854775807 + y {
+            return a_whole(x - y);
+        }
+        return an_error();
+    }
+    if -9223372036854775808 + y <= x {
+        return a_whole(x - y);
     }
     an_error()
-}
-
-// A difference, if a word holds it.
-pub fn difference(a: i64, b: i64) -> Root
-    ensures { λ r. ⌜ r ≡ rootOf (wholeTerm (a -ℤ b) .label) ⌝ }
-{
-    if difference_fits(a, b) {
-        return a_whole(a - b);
-    }
-    an_error()
-}
-
-pub fn difference_fits(a: i64, b: i64) -> bool
-    ensures { λ r. ⌜ r ≡ inWord (a -ℤ b) ⌝ }
-{
-    if b < 0 {
-        return a <= 9223372036854775807 + b;
-    }
-    -9223372036854775808 + b <= a
 }
 
 // term.same_symbol.
