@@ -6,11 +6,12 @@ use mathlib.Core.Option.{Option, some}
 use mathlib.Core.List.{List, [], _++_}
 use Prim.Native.Nat.{ℕ, _+_, _-_, _≤_}
 use native.Mathlib.Omega.{arith}
-use lib.Dec.{T, eqb→eq}
-use lib.IntN.{ℤ, pos, natAbs}
+use lib.Dec.{T}
+use lib.IntN.{ℤ, pos}
 use lib.ListN.{length, drop, getD, length-take}
-use Rattle.minuska.specs.Term.{Label, error, truth, whole, variable, call, symbol, Forest, nil, node, Term, leaf, single, termCount, role, groundAt}
-use Rattle.minuska.specs.Word.{tagWord, okHead, encode}
+use Rattle.minuska.specs.Term.{Forest, nil, node, Term, leaf, single, termCount}
+use Rattle.minuska.specs.Word.{encode}
+use Rattle.minuska.specs.Computed.Read.{childrenAt}
 use Rattle.minuska.specs.Satisfaction.{Valuation, SideCondition, Holds}
 use Rattle.minuska.specs.Computed.Value.{value, agreeing, agree, holds}
 use Rattle.minuska.specs.Bridge.Place.{part, Decides}
@@ -25,7 +26,7 @@ use Rattle.value.specs.declared.Value.{Value}
 use Rattle.value.specs.declared.Evaluated.{Evaluated}
 use Rattle.value.specs.declared.builtin.Root.{Root}
 use Rattle.value.proofs.ExpressionLaw.{no-terms}
-use Rattle.value.proofs.RootLaw.{label-is}
+use Rattle.value.proofs.RootLaw.{label-is, children-is}
 
 decides-test : (a b : Bool) (P : Type 0) → Decides a P → T b ↔ P → a ≡ b
 decides-test true true P d i = refl
@@ -60,14 +61,6 @@ module _ (table config : List ℤ) where
         }
 
 -- ---- one node: a value is it where their roots are the same
-no-child : (l : Label) (k : ℕ) → T (okHead l k) → T (groundAt (role l)) → tagWord l k ≡ tagWord l 0 → k ≡ 0
-no-child error k o g e = eqb→eq k 0 o
-no-child (truth b) k o g e = eqb→eq k 0 o
-no-child (whole z) k o g e = eqb→eq k 0 o
-no-child (variable v) k o g e = absurd g
-no-child (call c) k o g e = absurd g
-no-child (symbol s) k o g e = let h : 8 + k ≡ 8 = ap natAbs e in omega arith
-
 leaf-is : (t : Term) → termCount (t .children) ≡ 0 → leaf (t .label) ≡ t
 leaf-is t e = ap (λ (f : Forest). record { label = t .label; children = f }) (sym (no-terms (t .children) e))
 
@@ -75,9 +68,7 @@ module _ (a b : Root) (s t : Term) (h : Head a (s .label) (termCount (s .childre
   same-roots : a .tag ≡ b .tag → a .datum ≡ b .datum → s ≡ t
   same-roots p q =
       let l : s .label ≡ t .label = sym (label-is a _ _ h) ∙ (ap₂ labelAt p q ∙ label-is b _ _ k) in
-      let e : tagWord (s .label) (termCount (s .children)) ≡ tagWord (s .label) 0 =
-      sym (h .tag) ∙ (p ∙ (k .tag ∙ ap₂ tagWord (sym l) n)) in
-      let m = no-child (s .label) (termCount (s .children)) (h .good) (h .ground) e in
+      let m : termCount (s .children) ≡ 0 = children-is a _ _ h ∙ (ap₂ childrenAt p q ∙ (sym (children-is b _ _ k) ∙ n)) in
       sym (leaf-is s m) ∙ (ap leaf l ∙ leaf-is t n)
 
   pub roots-decide : (c : Bool) → Decides c ((a .tag ≡ b .tag) × (a .datum ≡ b .datum)) → Decides c (encode (single s) ≡ encode (single t))

@@ -1,5 +1,5 @@
 -- The root that a ground node's two words say, and the two words of a term's root.
-use mathlib.Core.Path.{_≡_, refl, _∙_, ap, ap₂}
+use mathlib.Core.Path.{_≡_, refl, sym, _∙_, ap, ap₂}
 use mathlib.Core.Bool.{Bool, true, false, _&&_, cond}
 use mathlib.Core.List.{List, [], _∷_, _++_}
 use Prim.Native.Nat.{ℕ, suc, _+_, _-_, _<_}
@@ -10,8 +10,10 @@ use lib.ListN.{getD, length, take, drop}
 use borrow.Author.Tests.{le-leb}
 use Rattle.minuska.specs.Term.{Label, error, truth, whole, variable, call, symbol, nil, Term, single, termCount, role, groundAt, isGround}
 use Rattle.minuska.specs.Word.{tagWord, datumWord, ok, encode}
+use Rattle.minuska.specs.Computed.Read.{childrenAt}
 use Rattle.minuska.specs.Bridge.Place.{part, Stands}
 use Rattle.minuska.proofs.Tests.{and-left}
+use Rattle.minuska.proofs.NodeLaw.{children-right}
 use Rattle.minuska.proofs.WordLaw.{okay}
 use Rattle.minuska.proofs.Bridge.PlaceLaw.{two-words}
 use Rattle.value.specs.Builtin.{labelAt}
@@ -34,6 +36,10 @@ label-of (symbol s) k g =
 
 pub label-is : (r : Root) (l : Label) (k : ℕ) → Head r l k → labelAt (r .tag) (r .datum) ≡ l
 label-is r l k h = ap₂ labelAt (h .tag) (h .datum) ∙ label-of l k (h .ground)
+
+-- its child count
+pub children-is : (r : Root) (l : Label) (k : ℕ) → Head r l k → k ≡ childrenAt (r .tag) (r .datum)
+children-is r l k h = sym (children-right l k (h .good)) ∙ sym (ap₂ childrenAt (h .tag) (h .datum))
 
 -- the first two words of a ground term
 pub own-head : (t : Term) (r : Root) → T (ok (single t)) → T (isGround (single t)) → r .tag ≡ tagWord (t .label) (termCount (t .children)) → r .datum ≡ datumWord (t .label) → Head r (t .label) (termCount (t .children))
