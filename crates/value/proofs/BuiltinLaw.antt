@@ -1,5 +1,5 @@
 -- What two words say by their tag; the functions on arguments of one kind, and what an argument of another kind is to them.
-use mathlib.Core.Path.{_≡_, refl, sym, ap, _∙_}
+use mathlib.Core.Path.{_≡_, refl, sym, ap}
 use mathlib.Core.Bool.{Bool, true, false, _&&_, cond}
 use mathlib.Core.Option.{Option, none, some}
 use Prim.Native.Nat.{ℕ, zero, suc, _^_, _≤_, _<_}
@@ -12,7 +12,7 @@ use borrow.Author.Tests.{ltb-true, ltb-false, le-leb, lt-leb, ne-eqb}
 use mir.Syntax.{w64}
 use mir.Val.{SFits, toZ, ofZ}
 use mir.Facts.{toZ-ofZ}
-use Rattle.minuska.specs.Term.{Label, error, truth, whole, symbol, Term}
+use Rattle.minuska.specs.Term.{Label, error, whole, symbol, Term}
 use Rattle.minuska.specs.Basics.{_>>=_, present, provided, sameWhole}
 use Rattle.minuska.specs.Function.{asTruth, asWhole, asSymbol, wrongKind, orWrongKind, inWord, wholeTerm, shareRange, shareOf, Function, functions, noFunction}
 use Rattle.value.specs.Builtin.{unsigned, labelAt, rootOf, leaves, applied}

@@ -1,9 +1,9 @@
 -- A call of two short arguments: what stands there, and that its value is meant.
 use mathlib.Core.Path.{_≡_, refl, sym, _∙_, ap, subst}
-use mathlib.Core.Bool.{true, false}
+use mathlib.Core.Bool.{true}
 use mathlib.Core.Logic.{_⊎_, inl, inr}
 use mathlib.Core.List.{List}
-use Prim.Native.Nat.{ℕ, zero, suc, _+_, _≤_, _<_}
+use Prim.Native.Nat.{ℕ, zero, suc, _+_, _<_}
 use native.Mathlib.Omega.{arith}
 use lib.Dec.{ltb}
 use lib.IntN.{ℤ, pos, negsuc, natAbs}
@@ -16,7 +16,7 @@ use Rattle.minuska.specs.Function.{argument, functionAt}
 use Rattle.minuska.specs.Satisfaction.{Valuation}
 use Rattle.value.specs.Evaluate.{HasValue, firstOf, restOf}
 use Rattle.value.specs.Short.{Short}
-use Rattle.value.proofs.ExpressionLaw.{CallHere, MoreHere, is-variable, is-literal, is-more, no-more}
+use Rattle.value.proofs.ExpressionLaw.{CallHere, is-variable, is-literal, is-more, no-more}
 use Rattle.value.proofs.MeantLaw.{first-long}
 
 one-less : (es : Forest) (n : ℕ) → termCount es ≡ suc n → termCount (restOf es) ≡ n

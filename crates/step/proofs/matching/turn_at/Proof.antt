@@ -5,7 +5,7 @@ use native.Mathlib.Omega.{arith}
 use lib.Dec.{T, lit<}
 use lib.IntN.{ℤ, pos, natAbs}
 use lib.Signed.{nonNeg}
-use lib.ListN.{length, getD}
+use lib.ListN.{length}
 use mir.Syntax.{w64}
 use mir.Val.{SFits, toZ, ofZ}
 use mir.ValLaws.{toZ-ofZ}

@@ -1,8 +1,8 @@
-use mathlib.Core.Path.{_≡_, sym, ap, subst, subst⁻¹, _∙_}
+use mathlib.Core.Path.{_≡_, sym, ap, subst, _∙_}
 use mathlib.Core.List.{List}
 use Prim.Native.Nat.{ℕ, _+_, _≤_, _<_}
 use native.Mathlib.Omega.{arith}
-use lib.IntN.{ℤ, pos, natAbs}
+use lib.IntN.{pos, natAbs}
 use lib.ListN.{length, getD}
 use mir.Syntax.{w64}
 use mir.Val.{SFits, toZ, ofZ}
@@ -13,7 +13,7 @@ use Rattle.minuska.specs.Term.{nil, Term, single}
 use Rattle.minuska.specs.Word.{encode}
 use Rattle.minuska.specs.Function.{functions, functionAt}
 use Rattle.minuska.specs.Satisfaction.{Valuation}
-use Rattle.value.specs.Builtin.{rootOf, applied}
+use Rattle.value.specs.Builtin.{rootOf}
 use Rattle.value.specs.Root.{given}
 use Rattle.value.specs.Evaluate.{HasValue}
 use Rattle.value.specs.declared.builtin.Root.{Root}
