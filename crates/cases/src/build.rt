@@ -54,7 +54,7 @@ pub fn short(z: i64) -> u16 {
 
 // 0 less a word.
 pub fn negated(z: i64) -> i64 {
-    let m = value::builtin::minus(0, z);
+    let m = value::builtin::minus(term::WHOLE, 0, term::WHOLE, z);
     if m.tag == 2 { m.datum } else { z }
 }
 

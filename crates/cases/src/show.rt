@@ -28,7 +28,7 @@ pub fn whole(z: i64) {
 
 // The size of a word below 0.
 fn below_zero(z: i64) -> usize {
-    let m = value::builtin::minus(0, z);
+    let m = value::builtin::minus(term::WHOLE, 0, term::WHOLE, z);
     if m.tag == 2 {
         crate::build::number(m.datum)
     } else {
