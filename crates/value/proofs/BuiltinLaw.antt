@@ -12,7 +12,7 @@ use borrow.Author.Tests.{ltb-true, ltb-false, le-leb, lt-leb, ne-eqb}
 use mir.Syntax.{w64}
 use mir.Val.{SFits, toZ, ofZ}
 use mir.Facts.{toZ-ofZ}
-use Rattle.minuska.specs.Term.{Label, error, whole, symbol, Term}
+use Rattle.minuska.specs.Term.{truth, Label, error, whole, symbol, Term}
 use Rattle.minuska.specs.Basics.{_>>=_, present, provided, sameWhole}
 use Rattle.minuska.specs.Function.{asTruth, asWhole, asSymbol, wrongKind, orWrongKind, inWord, wholeTerm, shareRange, shareOf, Function, functions, noFunction}
 use Rattle.value.specs.Builtin.{unsigned, labelAt, rootOf, leaves, applied}
@@ -118,18 +118,16 @@ module _ {A : Type 0} (k : Kind A) {a b : ℤ} (x y : ℤ) (fa : SFits w64 a) (f
       rw (k .seen a x, k .seen b y, k .seen c z, ← e, both-seen, ← i)
       (ap (λ (t : Term). rootOf (t .label)) (sym (with-three (sameWhole a (k .tag)) (sameWhole b (k .tag)) (sameWhole c (k .tag)) (k .says x) (k .says y) (k .says z) f)))
 
--- ---- a code that is none of the functions', one by one, names no function
-abbrev pub NoneBelow : ℕ → ℕ → Type 0
-NoneBelow zero n = Unit {0}
-NoneBelow (suc m) n = NoneBelow m n × (n ≡ m → ⊥)
-
-at-least : (m n : ℕ) → NoneBelow m n → m ≤ n
-at-least zero n h = omega arith
-at-least (suc m) n h = let l = at-least m n (h .0) in let o = h .1 in omega arith
-
-pub no-function : (n : ℕ) (a b c : Label) → NoneBelow (length functions) n → error ≡ applied n a b c
+-- ---- bool.true and bool.false by their codes; a code that is none of the functions' names no function
+pub constant : (n : ℕ) (a b c : Label) → n < 2 → truth (eqb n 0) ≡ applied n a b c
 unfolding applied
-no-function n a b c h = ap (λ (f : Function). f .meaning (leaves a b c) .label) (sym (List·getD-eq-default functions noFunction (at-least (length functions) n h)))
+constant zero a b c h = refl
+constant (suc zero) a b c h = refl
+constant (suc (suc n)) a b c h = absurd (let f : ⊥ = omega arith in f)
+
+pub no-function : (n : ℕ) (a b c : Label) → length functions ≤ n → error ≡ applied n a b c
+unfolding applied
+no-function n a b c h = ap (λ (f : Function). f .meaning (leaves a b c) .label) (sym (List·getD-eq-default functions noFunction h))
 
 -- ---- symbols
 pub is-symbol : (t d : ℤ) → ltZ t (pos 8) ≡ false → labelAt t d ≡ symbol (ofZ w64 d)

@@ -4,10 +4,11 @@ use term::TRUTH;
 use term::WHOLE;
 ghost use mathlib.Core.Path.{_≡_};
 ghost use mathlib.Core.Bool.{_&&_, cond};
+ghost use Prim.Native.Nat.{_≤_};
 ghost use lib.Dec.{leb};
 ghost use lib.IntN.{natAbs, _+ℤ_, _-ℤ_};
 ghost use Rattle.minuska.specs.Basics.{sameWhole};
-ghost use Rattle.minuska.specs.Term.{error, truth, whole};
+ghost use Rattle.minuska.specs.Term.{Label, error, truth, whole};
 ghost use Rattle.minuska.specs.Function.{wrongKind, truthTerm, inWord, wholeTerm, shareRange, shareOf};
 ghost use Rattle.value.specs.Builtin.{labelAt, rootOf, applied};
 
@@ -19,28 +20,87 @@ pub struct Root {
     pub datum: i64,
 }
 
-// The value of the function of a code; a code that names none, and an argument of another kind, give error. Each code has its own arm, so that one jump leads to it.
+// The value of the function of a code; a code that names none, and an argument of another kind, give error. The codes go by groups, each a range.
 pub fn apply(code: usize, a: i64, x: i64, b: i64, y: i64, c: i64, z: i64) -> Root
     ensures { λ r. ⌜ r ≡ rootOf (applied code (labelAt a x) (labelAt b y) (labelAt c z)) ⌝ }
 {
     match code {
-        0 => a_truth(true),
-        1 => a_truth(false),
-        2 => neg(a, x),
-        3 => truth_of_two(TRUTH, a, b, (x == 1) & (y == 1)),
-        4 => truth_of_two(TRUTH, a, b, (x == 1) | (y == 1)),
-        5 => truth_of_two(TRUTH, a, b, (x == 1) == (y == 1)),
-        6 => a_truth(a == TRUTH),
-        7 => a_truth(a == WHOLE),
-        8 => plus(a, x, b, y),
-        9 => minus(a, x, b, y),
-        10 => truth_of_two(WHOLE, a, b, x == y),
-        11 => truth_of_two(WHOLE, a, b, x <= y),
-        12 => truth_of_two(WHOLE, a, b, x < y),
-        13 => same_symbol(a, x, b, y),
-        14 => share(a, x, b, y, c, z),
+        0..=7 => on_truths(code, a, x, b, y),
+        8..=9 => arithmetic(code, a, x, b, y),
+        10..=12 => comparison(code, a, x, b, y),
+        13..=14 => on_others(code, a, x, b, y, c, z),
         _ => an_error(),
     }
+}
+
+// bool.true, bool.false, bool.neg, bool.and, bool.or, bool.eq, bool.is, z.is.
+fn on_truths(code: usize, a: i64, x: i64, b: i64, y: i64) -> Root
+    requires { ⌜ code ≤ 7 ⌝ }
+    ensures { λ r. ⌜ ((l : Label) → r ≡ rootOf (applied code (labelAt a x) (labelAt b y) l)) ⌝ }
+{
+    if code < 2 {
+        return a_truth(code == 0);
+    }
+    if code == 2 {
+        return neg(a, x);
+    }
+    if code == 6 {
+        return a_truth(a == TRUTH);
+    }
+    if code == 7 {
+        return a_truth(a == WHOLE);
+    }
+    logic(code, a, x, b, y)
+}
+
+// bool.and, bool.or, bool.eq.
+fn logic(code: usize, a: i64, x: i64, b: i64, y: i64) -> Root
+    requires { ⌜ (3 ≤ code) × (code ≤ 5) ⌝ }
+    ensures { λ r. ⌜ ((l : Label) → r ≡ rootOf (applied code (labelAt a x) (labelAt b y) l)) ⌝ }
+{
+    if code == 3 {
+        return truth_of_two(TRUTH, a, b, (x == 1) & (y == 1));
+    }
+    if code == 4 {
+        return truth_of_two(TRUTH, a, b, (x == 1) | (y == 1));
+    }
+    truth_of_two(TRUTH, a, b, (x == 1) == (y == 1))
+}
+
+// z.plus, z.minus.
+fn arithmetic(code: usize, a: i64, x: i64, b: i64, y: i64) -> Root
+    requires { ⌜ (8 ≤ code) × (code ≤ 9) ⌝ }
+    ensures { λ r. ⌜ ((l : Label) → r ≡ rootOf (applied code (labelAt a x) (labelAt b y) l)) ⌝ }
+{
+    if code == 8 {
+        return plus(a, x, b, y);
+    }
+    minus(a, x, b, y)
+}
+
+// z.eq, z.le, z.lt.
+fn comparison(code: usize, a: i64, x: i64, b: i64, y: i64) -> Root
+    requires { ⌜ (10 ≤ code) × (code ≤ 12) ⌝ }
+    ensures { λ r. ⌜ ((l : Label) → r ≡ rootOf (applied code (labelAt a x) (labelAt b y) l)) ⌝ }
+{
+    if code == 10 {
+        return truth_of_two(WHOLE, a, b, x == y);
+    }
+    if code == 11 {
+        return truth_of_two(WHOLE, a, b, x <= y);
+    }
+    truth_of_two(WHOLE, a, b, x < y)
+}
+
+// term.same_symbol, z.share.
+fn on_others(code: usize, a: i64, x: i64, b: i64, y: i64, c: i64, z: i64) -> Root
+    requires { ⌜ (13 ≤ code) × (code ≤ 14) ⌝ }
+    ensures { λ r. ⌜ r ≡ rootOf (applied code (labelAt a x) (labelAt b y) (labelAt c z)) ⌝ }
+{
+    if code == 13 {
+        return same_symbol(a, x, b, y);
+    }
+    share(a, x, b, y, c, z)
 }
 
 // The nodes that functions give: error, a truth value, a whole number.
