@@ -1,5 +1,9 @@
 // Words read from a text, and parts of slices. A place out of range is left alone.
-ghost use Prim.Native.Nat.{_≤_};
+ghost use Prim.Native.Nat.{_<_, _≤_};
+ghost use lib.ListN.{length};
+
+// The place of a word that is not there.
+const NOWHERE: usize = 18446744073709551615;
 
 // The first words of a slice; all, if there are fewer.
 pub fn front(words: &[i64], n: usize) -> &[i64] {
@@ -83,22 +87,24 @@ fn signed(size: usize, minus: bool) -> i64 {
     size as i64
 }
 
-// How many words stand; where the open group starts and how many words it is to have; what is known of the next word.
+// How many words stand; where the open group starts, how many words it is to have, and the place of the one that rises; what is known of the next word.
 struct WordsSoFar {
     count: usize,
     start: usize,
     total: usize,
+    rises: usize,
     size: usize,
     minus: bool,
     started: bool,
 }
 
 // Between two words.
-fn behind(count: usize, start: usize, total: usize, minus: bool) -> WordsSoFar {
+fn behind(count: usize, start: usize, total: usize, rises: usize, minus: bool) -> WordsSoFar {
     WordsSoFar {
         count,
         start,
         total,
+        rises,
         size: 0,
         minus,
         started: false,
@@ -112,18 +118,38 @@ fn is_digit(byte: u8) -> bool {
     byte <= b'9'
 }
 
-// The words from `start` to `end` again and again, up to so many in all or to the slice's end; and the place behind them.
-fn repeat(words: &mut [i64], start: usize, end: usize, total: usize) -> usize {
+// A word and 1; the largest word as it is.
+fn one_more(z: i64) -> i64 {
+    let m = value::builtin::plus(term::WHOLE, z, term::WHOLE, 1);
+    if m.tag == 2 { m.datum } else { z }
+}
+
+// The word at `from` again at `at`, one more if it is the word that rises; and where that one stands last.
+fn again(words: &mut [i64], from: usize, at: usize, rises: usize) -> usize
+    requires { ⌜ from < length (now words) ⌝ }
+{
+    let v = term::word(words, from);
+    if from == rises {
+        word(words, at, one_more(v));
+        return at;
+    }
+    word(words, at, v);
+    rises
+}
+
+// The words from `start` to `end` again and again, up to so many in all or to the slice's end, the one at `rises` one more each time; and the place behind them.
+fn repeat(words: &mut [i64], start: usize, end: usize, total: usize, rises: usize) -> usize {
     if end < start {
         return end;
     }
     let mut from = start;
     let mut at = end;
+    let mut last = rises;
     while at < words.len() {
         if total <= at - start {
             return at;
         }
-        word(words, at, term::word(words, from));
+        last = again(words, from, at, last);
         from += 1;
         at += 1;
     }
@@ -145,24 +171,34 @@ fn with_byte(r: WordsSoFar, byte: u8, words: &mut [i64]) -> WordsSoFar {
             count: r.count,
             start: r.start,
             total: r.total,
+            rises: r.rises,
             size: with_digit(r.size, byte),
             minus: r.minus,
             started: true,
         };
     }
     if byte == b'x' {
-        return behind(r.count, r.count, r.size, false);
+        return behind(r.count, r.count, r.size, NOWHERE, false);
     }
     let end = flushed(r, words);
     if byte == b')' {
-        return behind(repeat(words, r.start, end, r.total), 0, 0, false);
+        return behind(
+            repeat(words, r.start, end, r.total, r.rises),
+            0,
+            0,
+            NOWHERE,
+            false,
+        );
     }
-    behind(end, r.start, r.total, byte == b'-')
+    if byte == b'+' {
+        return behind(end, r.start, r.total, r.count, false);
+    }
+    behind(end, r.start, r.total, r.rises, byte == b'-')
 }
 
 // The words of a text, parted by other bytes, its groups written out, at the start of a slice; and how many.
 pub fn words(text: &[u8], words: &mut [i64]) -> usize {
-    let mut r = behind(0, 0, 0, false);
+    let mut r = behind(0, 0, 0, NOWHERE, false);
     let mut i = 0;
     while i < text.len() {
         r = with_byte(r, text[i], words);

@@ -1,6 +1,8 @@
 // The calls: each prints the answer, and every lent slice whole. Out held 77 before, spare 66, choices 99, work 55.
 use crate::build::at_most;
 use crate::build::number;
+use term::LOOKUP;
+use term::UPDATE;
 
 pub fn table(name: &[u8], words: &[i64]) {
     crate::show::checked(b"table, ", name, table::check_table(words));
@@ -10,9 +12,15 @@ pub fn configuration(name: &[u8], words: &[i64]) {
     crate::show::checked(b"configuration, ", name, term::check_configuration(words));
 }
 
-// A function's code, and the nodes of three arguments.
+// A function's code, and the nodes of three arguments. A lookup and an update take whole dictionaries: they are run by steps.
 pub fn value(a: &[i64; 8]) {
     let code = number(a[0]);
+    if code == LOOKUP {
+        return crate::show::of_whole_terms();
+    }
+    if code == UPDATE {
+        return crate::show::of_whole_terms();
+    }
     crate::show::value(value::builtin::apply(code, a[1], a[2], a[3], a[4], a[5], a[6]));
 }
 

@@ -120,8 +120,8 @@ fn line(
 
 // The place behind a line's end.
 fn behind(at: usize, length: usize) -> usize {
-    if at < 32768 {
-        if length < 32768 {
+    if at < 98304 {
+        if length < 98304 {
             return at + length + 1;
         }
     }

@@ -124,15 +124,21 @@ fn truth(x: bool) {
     text(b"false");
 }
 
-// A function's value: error, a truth value or a whole number.
+// A function's value: error, a truth value, a whole number or the empty dictionary.
 pub fn value(r: Root) {
     let tag = r.tag;
     let datum = r.datum;
     match tag {
         0 => text(b"error"),
         1 => truth(datum == 1),
-        _ => whole(datum),
+        2 => whole(datum),
+        _ => text(b"empty dictionary"),
     }
+}
+
+// A function whose value the nodes of its arguments do not give.
+pub fn of_whole_terms() {
+    text(b"not of single nodes");
 }
 
 // How many words from a place on are equal.

@@ -1,3 +1,4 @@
+pub mod ShapeLaw
 pub mod WriteLaw
 pub mod ItemLaw
 pub mod AppendedLaw
@@ -9,3 +10,4 @@ pub mod AcceptedLaw
 pub mod PositionLaw
 pub mod PartLaw
 pub mod ReadLaw
+pub mod UniqueLaw

@@ -4,7 +4,7 @@ use mathlib.Core.Logic.{_↔_}
 use lib.Dec.{T}
 use Rattle.minuska.specs.Term.{Forest, nil, node, Role, aVariable, aCall, plain, role, groundAt, isGround}
 use Rattle.minuska.specs.Satisfaction.{Valuation, Evaluates, Instantiates}
-use Rattle.minuska.specs.Rule.{expressionAt, isExpression, isExpressionTerm}
+use Rattle.minuska.specs.Rule.{innerAt, inExpression, expressionAt, isExpression, isExpressionTerm}
 use Rattle.minuska.proofs.Tests.{and-left, and-right, and-both}
 use Rattle.minuska.proofs.ValueLaw.{evaluates-value, value-evaluates, instantiates-value, value-instantiates}
 
@@ -26,13 +26,13 @@ ground-term (node l cs ss) x =
 pub expression-term : (f : Forest) → T (isExpression f) → T (isExpressionTerm f)
 expression-term nil x = tt
 expression-term (node l cs ss) x =
-    let a = expressionAt (role l) (isExpression cs) (isGround cs) in
+    let a = innerAt (role l) (isExpression cs) (isGround cs) in
     let b = isExpression ss in
     and-both (expressionAt (role l) (isExpression cs) (isExpressionTerm cs)) (isExpressionTerm ss) (at (role l) (and-left a b x)) (expression-term ss (and-right a b x))
   where
-    at : (r : Role) → T (expressionAt r (isExpression cs) (isGround cs)) → T (expressionAt r (isExpression cs) (isExpressionTerm cs))
+    at : (r : Role) → T (innerAt r (isExpression cs) (isGround cs)) → T (expressionAt r (isExpression cs) (isExpressionTerm cs))
     at (aVariable v) g = g
-    at (aCall c) g = g
+    at (aCall c) g = and-right (inExpression c) (isExpression cs) g
     at plain g = ground-term cs g
 
 -- ON EXPRESSIONS THE TWO RELATIONS ARE ONE

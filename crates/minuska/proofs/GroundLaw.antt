@@ -1,17 +1,19 @@
 -- The relations over ground terms only, as A.1.2 has them: valuations into ground terms, side conditions over ground terms. At a ground
 -- configuration they relate what `Rewrites` relates.
 use mathlib.Core.Path.{_≡_, subst⁻¹}
-use mathlib.Core.Bool.{true}
+use mathlib.Core.Bool.{Bool, true, false, cond}
 use mathlib.Core.Logic.{_↔_}
 use mathlib.Core.Option.{some}
 use mathlib.Core.List.{List, [], _∷_}
 use Prim.Native.Nat.{ℕ}
 use lib.Dec.{T}
+use lib.IntN.{ℤ, _*ℤ_}
+use lib.Signed.{quotZ}
 use lib.ListN.{getElem?}
 use Rattle.minuska.specs.Basics.{every}
-use Rattle.minuska.specs.Term.{Forest, Term, single, Role, role, groundAt, isGround}
+use Rattle.minuska.specs.Term.{whole, Forest, Term, single, leaf, Role, role, groundAt, isGround}
 use Rattle.minuska.specs.Word.{ok}
-use Rattle.minuska.specs.Function.{interpret}
+use Rattle.minuska.specs.Function.{inWord, outOfRange, shareRange}
 use Rattle.minuska.specs.Satisfaction.{Valuation, Matches, Evaluates, Instantiates, SideCondition, Agree, HoldAll}
 use Rattle.minuska.specs.Rule.{Rule, Table, okRule, okCondition, okTable}
 use Rattle.minuska.specs.Rewriting.{Relates, RewritesBy}
@@ -22,8 +24,8 @@ use Rattle.minuska.proofs.Tests.{came, and-left, and-right}
 use Rattle.minuska.proofs.Good.{good, good-condition}
 use Rattle.minuska.proofs.ValueLaw.{evaluates-value, instantiates-value}
 use Rattle.minuska.proofs.SuccessorLaw.{Rewrites, afterMatch, after-relates, successor-iff}
-use Rattle.minuska.proofs.LabelLaw.{label-values, everywhere}
-use Rattle.minuska.proofs.KeepLaw.{Fine, fine-match, fine-apply, keeps}
+use Rattle.minuska.proofs.LabelLaw.{label-values, label-apply, everywhere}
+use Rattle.minuska.proofs.KeepLaw.{Fine, fine-match, keeps}
 use Rattle.minuska.proofs.StepLaw.{rule-okay}
 
 abbrev pub Ground : Term → Type 0
@@ -52,7 +54,11 @@ pub record RelatesGround (r : Rule) (ρ : Valuation) (g h : Term) : Type 0 where
 ground-values : (ρ : Valuation) → GroundIn ρ → (f g : Forest) → values ρ f ≡ some g → T (isGround g)
 ground-values ρ h f g e =
     label-values (λ l. groundAt (role l)) (λ l. true) (λ l s y. subst⁻¹ (λ (r : Role). T (groundAt r)) s tt)
-    (λ c xs. and-right (ok (single (interpret c xs))) (isGround (single (interpret c xs))) (fine-apply c xs)) ρ h f g (everywhere f) e
+    (label-apply (λ l. groundAt (role l)) tt (λ b. tt) (λ n. tt) (λ z. ground-if (inWord z) z) (λ a b c. ground-if (shareRange a b c) (quotZ (a *ℤ b) c))) ρ h f g (everywhere f) e
+  where
+    ground-if : (b : Bool) (z : ℤ) → Ground (cond b (leaf (whole z)) outOfRange)
+    ground-if true z = tt
+    ground-if false z = tt
 
 -- ---- side conditions: over ground terms or over all, under a ground valuation
 module _ (left : Term) (ρ : Valuation) (h : GroundIn ρ) where

@@ -19,9 +19,11 @@ pub mod OutcomeLaw
 pub mod RefusalLaw
 pub mod ContractLaw
 pub mod ShutLaw
+pub mod DictionaryLaw
 pub mod FunctionLaw
 pub mod LabelLaw
 pub mod KeepLaw
+pub mod MeterLaw
 pub mod GroundLaw
 pub mod RangeLaw
 pub mod MarkedLaw

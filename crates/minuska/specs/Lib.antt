@@ -1,6 +1,7 @@
 -- What must be believed: terms, their words, the functions, satisfaction, rules, one step, paths, the claims about the answers, and what is left in the slices.
 pub mod Basics
 pub mod Term
+pub mod Dictionary
 pub mod Word
 pub mod Function
 pub mod Satisfaction

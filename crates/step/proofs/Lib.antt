@@ -4,6 +4,7 @@ pub mod MatchingVariable
 pub mod MatchingAnswer
 pub mod ConditionsLaw
 pub mod RightLaw
+pub mod UpdateLaw
 pub mod RightLoopLaw
 pub mod RoomLaw
 pub mod RuleLaw

@@ -15,14 +15,16 @@ use Rattle.term.proofs.SignedLaw.{same-bits}
 use Rattle.minuska.specs.Basics.{sameWhole}
 use Rattle.minuska.specs.Term.{Label, Forest, nil, node, Term, single, termCount, Role, aVariable, aCall, plain, role, groundAt}
 use Rattle.minuska.specs.Computed.Read.{variableTag}
-use Rattle.minuska.specs.Word.{tagWord, datumWord, okHead, encode}
+use Rattle.minuska.specs.Word.{tagWord, datumWord, okHead, ok, encode}
 use Rattle.minuska.specs.Satisfaction.{Valuation}
 use Rattle.minuska.specs.Rule.{symbolicAt}
 use Rattle.minuska.specs.Bridge.Place.{Stands, GroundAt, GroundEnds}
 use Rattle.minuska.proofs.Tests.{same-whole, whole-same}
 use Rattle.minuska.proofs.NodeLaw.{NodeIs, node-is}
 use Rattle.minuska.proofs.WordLaw.{childless, okay, okay-all, head-okay, appended, encode-appended}
-use Rattle.minuska.proofs.Bridge.PlaceLaw.{stands-word, stands-head, stands-first, stands-second, stands-unique}
+use Rattle.minuska.proofs.Bridge.PlaceLaw.{stands-word, stands-head, stands-first, stands-second}
+use Rattle.minuska.proofs.Bridge.UniqueLaw.{count-unique}
+use Rattle.minuska.proofs.Bridge.ShapeLaw.{ok-shapely}
 use Rattle.minuska.proofs.Bridge.AppendedLaw.{first-words, appended-count, appended-ok, labels, labels-all, appended-labels}
 use Rattle.step.specs.Compare.{Comparison, apart, later, compare}
 use Rattle.step.specs.Matching.{Walk, Walking, TurnFrom, LeftTurned}
@@ -97,11 +99,13 @@ module _ {table : List ℤ} {end : ℕ} {config : List ℤ} {i j : ℕ} {starts 
     pub words-here : Stands config j (encode (single term) ++ encode gss)
     words-here = subst (Stands config j) (first-words g gs gss) (w .groundStands)
 
+    pub good-here : T (ok (single term))
+    good-here = let p = okay g gs gss (w .groundGood) in okay-all g gs nil (p .allowed) (p .children) tt
+
     abbrev pub term-at : GroundAt config j
     term-at =
-        let p = okay g gs gss (w .groundGood) in
         let d = labels (λ z. groundAt (role z)) g gs gss (w .groundGround) in
-        record { term = term; good = okay-all g gs nil (p .allowed) (p .children) tt; ground = labels-all (λ z. groundAt (role z)) g gs nil (d .here) (d .children) tt; stands = stands-first (encode (single term)) (encode gss) words-here }
+        record { term = term; shape = ok-shapely (single term) good-here; ground = labels-all (λ z. groundAt (role z)) g gs nil (d .here) (d .children) tt; stands = stands-first (encode (single term)) (encode gss) words-here }
 
     -- ---- a plain node
     -- the label is plain, as the tag says
@@ -183,4 +187,4 @@ last-ends {table} {i} {end} {config} {j} t last = heads (t .walking) (t .before)
     let p : length (encode lss) ≡ 0 = omega (arith, k .leftEnds, length-append (encode ls) (encode lss)) in
     let n : termCount gss ≡ 0 = omega (arith, no-words lss p, k .asMany) in
     let e : length config ≡ j + length (encode (single (x .term))) = subst (λ (f : Forest). length config ≡ j + length (encode (node g gs f))) (childless gss n) (k .groundEnds) in
-    record { ends = λ s good ground stands. e ∙ ap (λ (y : Term). j + length (encode (single y))) (stands-unique (x .term) s (x .good) good (x .stands) stands) }
+    record { ends = λ s good ground stands. e ∙ ap (λ (y : Forest). j + length (encode y)) (count-unique (single (x .term)) (single s) (x .shape) good (x .stands) stands refl) }

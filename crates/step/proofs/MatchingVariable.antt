@@ -29,7 +29,7 @@ use Rattle.step.specs.Compare.{Comparison, apart, later, after, compareB
 use Rattle.step.specs.Matching.{Walk, Walking, TurnFrom, Put, LeftTurned}
 use Rattle.step.specs.declared.matching.LeftTurn.the-variants.{Bind, Again, Misfit}
 use Rattle.step.proofs.CompareLaw.{later-later}
-use Rattle.step.proofs.MatchingLaw.{word, has-part, heads, left-tag, left-datum, words-here, term-at}
+use Rattle.step.proofs.MatchingLaw.{word, has-part, heads, left-tag, left-datum, words-here, good-here, term-at}
 
 module _ {table : List ℤ} {end : ℕ} {config : List ℤ} {i j : ℕ} {starts ends : List ℕ} {n : ℕ} {o : Comparison} where
   -- the walk is at a variable, if the tag says so
@@ -111,7 +111,7 @@ module _ {table : List ℤ} {end : ℕ} {config : List ℤ} {i j : ℕ} {starts 
         place u (yes p) t q =
             rw (p, ps .here, pe .here)
             (subst (BoundAt config j e v) (Option·some-injective here t (sym (at-it u p) ∙ q))
-            (record { variable = low; good = found .good; ground = found .ground; stands = found .stands; ends = at }))
+            (record { variable = low; good = good-here (variable v) nil lss g gs gss σ w; ground = found .ground; stands = found .stands; ends = at }))
         place u (no f) t q = rw (ps .others u f, pe .others u f) (w .binds .places u t (sym (there u f) ∙ q))
 
         open-end : (u : ℕ) → Dec (u ≡ v) → assignNew σ v here u ≡ none → getD ends′ u 0 ≡ 0
@@ -136,7 +136,7 @@ module _ {table : List ℤ} {end : ℕ} {config : List ℤ} {i j : ℕ} {starts 
       after-again e at h same =
           let n : length (encode (single s)) ≡ e - j = omega (arith, bound .ends) in
           let x : Stands config j (encode (single s)) = record { words = ap (λ (k : ℕ). take k (drop j config)) n ∙ (sym same ∙ part-words); within = omega (arith, bound .ends) } in
-          let q : s ≡ here = stands-unique s here (bound .good) (found .good) x (found .stands) in
+          let q : s ≡ here = stands-unique s here (bound .good) (good-here (variable v) nil lss g gs gss σ w) x (found .stands) in
           behind e (omega (arith, bound .ends, ap (λ (t : Term). length (encode (single t))) q)) starts ends σ (w .binds) (w .free)
           (assigned σ (again-assigns ∙ provided-true (sameTerm s here) σ (subst (λ (t : Term). T (sameTerm s t)) q (term-same s))))
 
@@ -163,7 +163,7 @@ module _ {table : List ℤ} {end : ℕ} {config : List ℤ} {i j : ℕ} {starts 
 module _ {table : List ℤ} {i end : ℕ} {config : List ℤ} {j : ℕ} {starts ends : List ℕ} {v : ℕ} (three : word table i ≡ pos variableTag) (number : v ≡ natAbs (word table (i + 1))) where
   pub turned-bind : {to : ℕ} → to ≡ getD ends v 0 → to ≡ 0 → {e : ℕ} → GroundEnds config j e → LeftTurned table i end config j starts ends (Bind v e)
   turned-bind r z {e} t =
-      record { after = λ n o h w. at-variable w h three number λ lss g gs gss σ low d k. let x = found v lss g gs gss σ k in let a = t .ends (x .term) (x .good) (x .ground) (x .stands) in (low, omega (arith, a), omega (arith, a, x .stands .within), after-bind v lss g gs gss σ k low e (sym r ∙ z) a) }
+      record { after = λ n o h w. at-variable w h three number λ lss g gs gss σ low d k. let x = found v lss g gs gss σ k in let a = t .ends (x .term) (x .shape) (x .ground) (x .stands) in (low, omega (arith, a), omega (arith, a, x .stands .within), after-bind v lss g gs gss σ k low e (sym r ∙ z) a) }
 
   -- a part from a start to an end that were read in the arrays
   module _ {from to : ℕ} (start : from ≡ getD starts v 0) (stop : to ≡ getD ends v 0) (z : to ≡ 0 → ⊥) where

@@ -1,6 +1,6 @@
 -- One item of a right, by the node's tag: a variable's part, a call's value, or a plain node's two words; its size; and the rest behind it.
 use mathlib.Core.Path.{_≡_, refl, sym, _∙_, ap, subst, subst⁻¹, subst₂}
-use mathlib.Core.Bool.{Bool, true, false, _&&_, cond, false≢true}
+use mathlib.Core.Bool.{Bool, true, false, not, _&&_, cond, false≢true}
 use mathlib.Core.Option.{Option, some}
 use mathlib.Core.List.{List, [], _∷_, _++_}
 use Prim.Native.Nat.{ℕ, _+_, _-_, _≤_, _<_}
@@ -9,12 +9,13 @@ use lib.Dec.{T}
 use lib.IntN.{ℤ, pos, natAbs}
 use lib.ListN.{length, take, drop, getD, length-append}
 use lib.Signed.{nonNeg}
+use borrow.Author.Tests.{ne-eqb}
 use Rattle.minuska.specs.Basics.{_>>=_}
 use Rattle.minuska.specs.Term.{Label, whole, variable, call, Forest, nil, node, Term, single, leaf, termCount, Role, aVariable, role, isGround}
-use Rattle.minuska.specs.Word.{variables, okHead, tagWord, datumWord, encode}
+use Rattle.minuska.specs.Word.{variables, okHead, ok, tagWord, datumWord, encode}
 use Rattle.minuska.specs.Function.{inWord, shareRange, outOfRange, interpret}
 use Rattle.minuska.specs.Satisfaction.{Valuation}
-use Rattle.minuska.specs.Rule.{expressionAt, isExpression, isExpressionTerm}
+use Rattle.minuska.specs.Rule.{inExpression, innerAt, expressionAt, isExpression, isExpressionTerm}
 use Rattle.minuska.specs.Computed.Read.{variableTag, callTag}
 use Rattle.minuska.specs.Computed.Value.{valueAt, value, values}
 use Rattle.minuska.specs.Bridge.Walk.{emit}
@@ -25,6 +26,7 @@ use Rattle.minuska.proofs.NodeLaw.{variable-tag, call-tag, plain-tag}
 use Rattle.minuska.proofs.WordLaw.{childless, okay, head-okay, okay-all, appended, encode-appended}
 use Rattle.minuska.proofs.Bridge.AppendedLaw.{first-words, appended-ok}
 use Rattle.minuska.proofs.Bridge.ItemLaw.{variable-item, call-item, plain-item, term-appended}
+use Rattle.minuska.proofs.Bridge.ShapeLaw.{ok-shapely}
 use Rattle.minuska.proofs.Bridge.PlaceLaw.{stands-first, stands-second, stands-head, stands-word}
 use Rattle.term.specs.TermAt.{TermAt, TermEnds}
 use Rattle.value.specs.declared.Evaluated.{Evaluated}
@@ -32,11 +34,11 @@ use Rattle.value.specs.declared.Value.the-variants as W
 use Rattle.value.specs.Value.{valueWords, Within, sizeOf, Ordered}
 use Rattle.value.specs.Evaluate.{HasValue, ExpressionIn, EvaluateContract, CallIn}
 use Rattle.value.proofs.WordsLaw.{size-is, within-ordered}
-use Rattle.step.specs.Right.{Rest, SomeRest, LeadsOn, ItemOf, ItemIs, SizedOf, SizedIs, SomePiece, PieceIs, OneNodeIs, FittingItem}
+use Rattle.step.specs.Right.{Rest, SomeRest, LeadsOn, ItemOf, ItemIs, SizedOf, SizedIs, SomePiece, PieceIs, NoUpdate, OneNodeIs, WordsAre, FittingItem}
 use Rattle.step.proofs.MatchingLaw.{word}
 
 -- a node stands before the end, and its tag is read there
-first : {ws cs : List ℤ} {starts ends : List ℕ} {at end : ℕ} {ρ : Valuation} {X : Type 0} (f : Forest) {us : List ℤ} → at < end → Rest ws cs starts ends at end ρ f us → ((l : Label) (ls ss : Forest) → Rest ws cs starts ends at end ρ (node l ls ss) us → word ws at ≡ tagWord l (termCount ls) → X) → X
+pub first : {ws cs : List ℤ} {starts ends : List ℕ} {at end : ℕ} {ρ : Valuation} {X : Type 0} (f : Forest) {us : List ℤ} → at < end → Rest ws cs starts ends at end ρ f us → ((l : Label) (ls ss : Forest) → Rest ws cs starts ends at end ρ (node l ls ss) us → word ws at ≡ tagWord l (termCount ls) → X) → X
 first nil below r go = absurd (let e = r .upTo in let f : ⊥ = omega arith in f)
 first (node l ls ss) below r go = go l ls ss r (stands-head (r .stands) (pos 0))
 
@@ -48,8 +50,12 @@ one-if : (b : Bool) (z : ℤ) → OneNode (cond b (leaf (whole z)) outOfRange)
 one-if true z = refl
 one-if false z = refl
 
-pub one-node : (c : ℕ) (xs : Forest) → OneNode (interpret c xs)
-one-node = every-value OneNode (λ b. refl) refl (λ z. one-if (inWord z) z) (λ a b c. one-if (shareRange a b c) _)
+-- .. but a lookup's and an update's
+abbrev pub Single : ℕ → Type 0
+Single c = (c ≡ 16 → ⊥) × (c ≡ 17 → ⊥)
+
+pub one-node : (c : ℕ) (xs : Forest) → Single c → OneNode (interpret c xs)
+one-node = every-value (λ c xs. Single c) OneNode (λ b. refl) refl (λ z. one-if (inWord z) z) (λ a b c. one-if (shareRange a b c) _) refl (λ xs f es k t p q. absurd (f .0 refl)) (λ xs f es k p q. absurd (f .1 refl))
 
 -- a variable's number is in range, and its part is the item
 record VariableItem (ws cs : List ℤ) (starts ends : List ℕ) (at end : ℕ) (ρ : Valuation) (us : List ℤ) (v : ℕ) : Type 0 where
@@ -65,10 +71,12 @@ module _ {ws cs : List ℤ} {starts ends : List ℕ} {at end : ℕ} {ρ : Valuat
   standing : Stands ws at (encode (single this) ++ encode ss)
   standing = subst (Stands ws at) (first-words l ls ss) (r .stands)
 
+  good-here : T (ok (single this))
+  good-here = let o = okay l ls ss (r .good) in okay-all l ls nil (o .allowed) (o .children) tt
+
   abbrev term-here : TermAt ws at
   term-here =
-      let o = okay l ls ss (r .good) in
-      record { term = this; good = okay-all l ls nil (o .allowed) (o .children) tt; stands = stands-first (encode (single this)) (encode ss) standing }
+      record { term = this; shape = ok-shapely (single this) good-here; stands = stands-first (encode (single this)) (encode ss) standing }
 
   behind : (words : List ℤ) → emit ρ ss ≡ some words → Rest ws cs starts ends (at + length (encode (single this))) end ρ ss words
   behind words e =
@@ -82,14 +90,14 @@ module _ {ws cs : List ℤ} {starts ends : List ℕ} {at end : ℕ} {ρ : Valuat
         binds = r .binds;
       }
 
-  in-range : T (okHead l (termCount ls))
+  pub in-range : T (okHead l (termCount ls))
   in-range = head-okay l ls (okay l ls ss (r .good) .allowed)
 
   -- a term's words are emitted for the first term
-  leads-on : (t : Term) (words : List ℤ) → encode (single t) ++ words ≡ us → emit ρ ss ≡ some words → LeadsOn ws cs starts ends at end ρ us (encode (single t)) (at + length (encode (single this)))
+  pub leads-on : (t : Term) (words : List ℤ) → encode (single t) ++ words ≡ us → emit ρ ss ≡ some words → LeadsOn ws cs starts ends at end ρ us (encode (single t)) (at + length (encode (single this)))
   leads-on t words p e = record { later = ss; words = words; parted = p; forward = omega arith; rest = behind words e }
 
-  expression-shape : T (expressionAt (role l) (isExpression ls) (isExpressionTerm ls))
+  pub expression-shape : T (expressionAt (role l) (isExpression ls) (isExpressionTerm ls))
   expression-shape = and-left (expressionAt (role l) (isExpression ls) (isExpressionTerm ls)) (isExpressionTerm ss) (r .shape)
 
   -- ---- a variable
@@ -115,38 +123,47 @@ module _ {ws cs : List ℤ} {starts ends : List ℕ} {at end : ℕ} {ρ : Valuat
     record CallItem : Type 0 where
       code : ℕ
       arguments : Forest
-      has : HasValue ws cs starts ends at ρ this (interpret code arguments)
+      coded : word ws (at + 1) ≡ pos code
+      has : NoUpdate ws at → HasValue ws cs starts ends at ρ this (interpret code arguments)
       leads : LeadsOn ws cs starts ends at end ρ us (encode (single (interpret code arguments))) (at + length (encode (single this)))
+
+    here-tag : word ws at ≡ tagWord l (termCount ls)
+    here-tag = stands-head (r .stands) (pos 0)
 
     call-here : CallItem
     call-here =
         let (c, k, n) = call-tag l (termCount ls) in-range tag in
         let i = call-item ρ l ls ss us (r .emits) c k in
         let x = subst (λ (z : Role). T (expressionAt z (isExpression ls) (isExpressionTerm ls))) k expression-shape in
-        let y : T (isExpression (single this)) = subst (λ (z : Role). T (expressionAt z (isExpression ls) (isGround ls) && isExpression nil)) (sym k) (and-both (isExpression ls) (isExpression nil) x tt) in
+        let d : word ws (at + 1) ≡ pos c = stands-word (r .stands) 1 (pos 0) (omega arith) ∙ n .datum in
+        let y : NoUpdate ws at → T (isExpression (single this)) =
+        λ other.
+        let q : T (inExpression c) = subst⁻¹ (λ (b : Bool). T (not b)) (ne-eqb c 17 (λ e. other .not (record { call = here-tag ∙ tag; code = d ∙ ap pos e }))) tt in
+        subst (λ (z : Role). T (innerAt z (isExpression ls) (isGround ls) && isExpression nil)) (sym k) (and-both (inExpression c && isExpression ls) (isExpression nil) (and-both (inExpression c) (isExpression ls) q x) tt) in
         let v : value ρ this ≡ some (interpret c (i .0)) =
         subst (λ (z : Role). valueAt ρ z l (values ρ ls) ≡ some (interpret c (i .0))) (sym k) (ap (λ (o : Option Forest). o >>= λ ys. some (interpret c ys)) (i .2)) in
         record {
           code = c;
           arguments = i .0;
-          has = record { placed = record { good = term-here .good; expressions = y; stands = term-here .stands; binds = r .binds }; is = v };
+          coded = d;
+          has = λ other. record { placed = record { good = good-here; expressions = y other; stands = term-here .stands; binds = r .binds }; is = v };
           leads = leads-on (interpret c (i .0)) (i .1) (i .3) (i .4);
         }
 
-    expression-in : ExpressionIn ws cs starts ends at
-    expression-in = let g = call-here in record { valuation = ρ; expression = this; term = interpret (g .code) (g .arguments); has = g .has }
+    expression-in : NoUpdate ws at → ExpressionIn ws cs starts ends at
+    expression-in other = let g = call-here in record { valuation = ρ; expression = this; term = interpret (g .code) (g .arguments); has = g .has other }
 
-    evaluated-item : (s : Evaluated) → EvaluateContract ws cs starts ends at s → ItemOf ws cs starts ends at end ρ us s
-    evaluated-item s c =
+    evaluated-item : NoUpdate ws at → (s : Evaluated) → EvaluateContract ws cs starts ends at s → ItemOf ws cs starts ends at end ρ us s
+    evaluated-item other s c =
         let g = call-here in
-        let m = c .meant ρ this (interpret (g .code) (g .arguments)) (g .has) in
+        let m = c .meant ρ this (interpret (g .code) (g .arguments)) (g .has other) in
         record { within = m .is .within; leads = subst₂ (λ (vs : List ℤ) (n : ℕ). LeadsOn ws cs starts ends at end ρ us vs n) (sym (m .is .words)) (sym (m .next)) (g .leads) }
 
-    call-size : (e : ℕ) → TermEnds ws at e → SizedOf ws cs starts ends at end ρ us (record { words = 2; next = e })
-    call-size e x =
+    call-size : (word ws (at + 1) ≡ pos 16 → ⊥) → (word ws (at + 1) ≡ pos 17 → ⊥) → (e : ℕ) → TermEnds ws at e → SizedOf ws cs starts ends at end ρ us (record { words = 2; next = e })
+    call-size p q e x =
         let g = call-here in
         let v = encode (single (interpret (g .code) (g .arguments))) in
-        record { first = v; many = one-node (g .code) (g .arguments); leads = subst (λ (n : ℕ). LeadsOn ws cs starts ends at end ρ us v n) (sym (x .ends this (term-here .good) (term-here .stands))) (g .leads) }
+        record { first = v; many = one-node (g .code) (g .arguments) (λ i. p (g .coded ∙ ap pos i), λ i. q (g .coded ∙ ap pos i)); leads = subst (λ (n : ℕ). LeadsOn ws cs starts ends at end ρ us v n) (sym (x .ends this (term-here .shape) (term-here .stands))) (g .leads) }
 
   -- ---- a plain node: its two words as they stand
   abbrev two : List ℤ
@@ -214,23 +231,23 @@ module _ (ws : List ℤ) (starts ends : List ℕ) (at : ℕ) where
   node-is f g = record { is = λ cs end ρ h us below r. first h below r (λ l ls ss k t. node-item k (λ e. f (t ∙ e)) (λ e. g (t ∙ e))) }
 
 -- ---- `item` at a call
-module _ (ws cs : List ℤ) (starts ends : List ℕ) (at end : ℕ) (below : at < end) (four : word ws at ≡ pos callTag) where
+module _ (ws cs : List ℤ) (starts ends : List ℕ) (at end : ℕ) (below : at < end) (four : word ws at ≡ pos callTag) (other : NoUpdate ws at) where
   pub evaluate-needs : SomeRest ws cs starts ends at end → ExpressionIn ws cs starts ends at
-  evaluate-needs s = first (s .terms) below (s .is) λ l ls ss r t. expression-in r (sym t ∙ four)
+  evaluate-needs s = first (s .terms) below (s .is) λ l ls ss r t. expression-in r (sym t ∙ four) other
 
   pub call-needs : SomeRest ws cs starts ends at end → CallIn ws cs starts ends at
   call-needs s = record { expression = evaluate-needs s; tag = four }
 
   pub evaluated-is : (s : Evaluated) → EvaluateContract ws cs starts ends at s → ItemIs ws cs starts ends at end s
-  evaluated-is s c = record { is = λ ρ f us r. first f below r (λ l ls ss k t. evaluated-item k (sym t ∙ four) s c) }
+  evaluated-is s c = record { is = λ ρ f us r. first f below r (λ l ls ss k t. evaluated-item k (sym t ∙ four) other s c) }
 
 -- ---- `item_size`: a call that gives one node, or else the item's own size
 module _ (ws : List ℤ) (at : ℕ) where
-  pub one-node-call : word ws at ≡ pos callTag → OneNodeIs ws at true
-  one-node-call four = record { call = λ e. four; size = λ e cs starts ends end ρ f us below r next x. first f below r (λ l ls ss k t. call-size k (sym t ∙ four) next x) }
+  pub one-node-call : word ws at ≡ pos callTag → (word ws (at + 1) ≡ pos 16 → ⊥) → (word ws (at + 1) ≡ pos 17 → ⊥) → OneNodeIs ws at true
+  one-node-call four p q = record { call = λ e. four; expression = λ e. record { not = λ u. q (u .code) }; size = λ e cs starts ends end ρ f us below r next x. first f below r (λ l ls ss k t. call-size k (sym t ∙ four) p q next x) }
 
   pub no-one-node : OneNodeIs ws at false
-  no-one-node = record { call = λ e. absurd (false≢true e); size = λ e. absurd (false≢true e) }
+  no-one-node = record { call = λ e. absurd (false≢true e); expression = λ e. absurd (false≢true e); size = λ e. absurd (false≢true e) }
 
 module _ (ws cs : List ℤ) (starts ends : List ℕ) (at end : ℕ) (below : at < end) where
   pub call-sized : (b : Bool) → OneNodeIs ws at b → b ≡ true → (e : ℕ) → TermEnds ws at e → SizedIs ws cs starts ends at end (record { words = 2; next = e })
@@ -245,6 +262,9 @@ module _ (ws cs : List ℤ) (starts ends : List ℕ) (at end : ℕ) (below : at 
 
     pub item-sized : (n : ℕ) → n ≡ sizeOf (s .value) → SizedIs ws cs starts ends at end (record { words = n; next = s .next })
     item-sized n e = record { is = λ ρ f us r. let g = x .is ρ f us r in record { first = valueWords ws cs (s .value); many = e ∙ sym (size-is ws cs (s .value) (g .within)); leads = g .leads } }
+
+    pub item-words : WordsAre ws cs starts ends at end (valueWords ws cs (s .value)) (s .next)
+    item-words = record { is = λ ρ f us r. x .is ρ f us r .leads }
 
     -- ---- `write_item`: an item ends within the table, and there is room for its words
     module _ (o room : ℕ) (k : FittingItem ws cs starts ends at end o room) where

@@ -13,11 +13,9 @@ use borrow.Author.Tests.{le-leb, lt-leb}
 use Rattle.minuska.specs.Term.{Forest, nil, node}
 use Rattle.minuska.specs.Satisfaction.{Valuation}
 use Rattle.minuska.specs.Slice.{write}
-use Rattle.value.specs.declared.Evaluated.{Evaluated}
-use Rattle.value.specs.Value.{valueWords}
 use Rattle.value.specs.Copy.{written}
 use Rattle.step.specs.declared.right.Sized.{Sized}
-use Rattle.step.specs.Right.{Rest, SomeRest, LeadsOn, ItemOf, ItemIs, SizedOf, SizedIs, MeasureRightIs, FittingItem, FittingRest, WriteRightIs}
+use Rattle.step.specs.Right.{Rest, SomeRest, LeadsOn, WordsAre, SizedOf, SizedIs, MeasureRightIs, FittingItem, FittingRest, WriteRightIs}
 
 module _ (ws cs : List ℤ) (starts ends : List ℕ) (at end : ℕ) where
   -- how far the items have come: the words so far, and the rest from place i on
@@ -45,8 +43,8 @@ module _ (ws cs : List ℤ) (starts ends : List ℕ) (at end : ℕ) where
       come-size =
           omega (arith, ap length (t .parted), length-append vs (t .words), ap length (c .joined), length-append so-far (c .words))
 
-    come-item : (r : Evaluated) → ItemIs ws cs starts ends i end r → ItemOf ws cs starts ends i end ρ (c .words) r
-    come-item r x = x .is ρ (c .later) (c .words) (c .rest)
+    come-words : (vs : List ℤ) (next : ℕ) → WordsAre ws cs starts ends i end vs next → LeadsOn ws cs starts ends i end ρ (c .words) vs next
+    come-words vs next x = x .is ρ (c .later) (c .words) (c .rest)
 
     come-sized : (r : Sized) → SizedIs ws cs starts ends i end r → SizedOf ws cs starts ends i end ρ (c .words) r
     come-sized r x = x .is ρ (c .later) (c .words) (c .rest)
@@ -115,10 +113,10 @@ module _ (ws cs : List ℤ) (starts ends : List ℕ) (at end : ℕ) where
           many = λ ρ f us r. let (so-far, c, e, w) = m .come ρ f us r in e ∙ ap length (come-end us ρ i so-far c h);
         }
 
-    module _ (r : Evaluated) (x : ItemIs ws cs starts ends i end r) where
-      pub writing-on : (o′ : ℕ) (out′ : List ℤ) → out′ ≡ written out o (valueWords ws cs (r .value)) → o′ ≡ o + length (valueWords ws cs (r .value)) → Writing out₀ (r .next) o′ out′
+    module _ (v : List ℤ) (next : ℕ) (x : WordsAre ws cs starts ends i end v next) where
+      pub writing-on : (o′ : ℕ) (out′ : List ℤ) → out′ ≡ written out o v → o′ ≡ o + length v → Writing out₀ next o′ out′
       writing-on o′ out′ p q =
-          record { come = λ ρ f us z. let (so-far, c, e, w) = m .come ρ f us z in let v = valueWords ws cs (r .value) in (so-far ++ v, come-on us ρ i so-far c v (r .next) (come-item us ρ i so-far c r x .leads), q ∙ (ap (λ (n : ℕ). n + length v) e ∙ sym (length-append so-far v)), p ∙ (ap (λ (y : List ℤ). written y o v) w ∙ (ap (λ (n : ℕ). written (write so-far out₀) n v) e ∙ put-behind out₀ so-far v))) }
+          record { come = λ ρ f us z. let (so-far, c, e, w) = m .come ρ f us z in (so-far ++ v, come-on us ρ i so-far c v next (come-words us ρ i so-far c v next x), q ∙ (ap (λ (n : ℕ). n + length v) e ∙ sym (length-append so-far v)), p ∙ (ap (λ (y : List ℤ). written y o v) w ∙ (ap (λ (n : ℕ). written (write so-far out₀) n v) e ∙ put-behind out₀ so-far v))) }
 
-      pub writing-forward : SomeRest ws cs starts ends at end → i < r .next
-      writing-forward s = let (so-far, c, e, w) = m .come (s .valuation) (s .terms) (s .words) (s .is) in come-item (s .words) (s .valuation) i so-far c r x .leads .forward
+      pub writing-forward : SomeRest ws cs starts ends at end → i < next
+      writing-forward s = let (so-far, c, e, w) = m .come (s .valuation) (s .terms) (s .words) (s .is) in come-words (s .words) (s .valuation) i so-far c v next x .forward

@@ -1,10 +1,10 @@
 -- From where a rule's parts stand to what stands there: the left, the conditions and the right of that rule.
-use mathlib.Core.Path.{_≡_, sym, _∙_, ap}
+use mathlib.Core.Path.{_≡_, sym, _∙_, ap, subst⁻¹}
 use mathlib.Core.Bool.{Bool, true}
 use mathlib.Core.Option.{Option, some}
 use mathlib.Core.List.{List, [], _∷_}
-use Prim.Native.Nat.{ℕ, _+_, _*_, _≤_}
-use native.Mathlib.Nat.{mul-le-mul}
+use Prim.Native.Nat.{ℕ, _+_, _-_, _*_, _≤_, max}
+use native.Mathlib.Nat.{mul-le-mul, le-max-left, le-max-right, max-le}
 use native.Mathlib.Omega.{arith}
 use lib.IntN.{ℤ}
 use lib.Dec.{T}
@@ -20,6 +20,7 @@ use Rattle.minuska.specs.Computed.Value.{value}
 use Rattle.minuska.specs.Bridge.Walk.{emit}
 use Rattle.minuska.specs.Bridge.Place.{Names, leftWords, rightWords, conditionsWords, PartIs, SizesAre}
 use Rattle.minuska.proofs.Tests.{and-left, and-right}
+use Rattle.minuska.proofs.WordLaw.{encode-length}
 use Rattle.minuska.proofs.Good.{good, good-condition}
 use Rattle.minuska.proofs.StepLaw.{rule-okay}
 use Rattle.minuska.proofs.MatchLaw.{match-sound, matches-binds}
@@ -33,6 +34,10 @@ use Rattle.step.specs.Conditions.{SidesWorth, StandingConditions, SomeCo
 use Rattle.step.specs.Right.{Rest, SomeRest, MeasureRightIs, FittingRest, WriteRightIs}
 use Rattle.step.specs.declared.how_far.HowFar.{HowFar}
 use Rattle.step.proofs.RoomLaw.{words-most}
+
+-- the greater of two numbers is at least each, and at most both together
+pub greater-of-two : {a b r : ℕ} → r ≡ max a b → (a ≤ r) × (b ≤ r) × (r ≤ a + b)
+greater-of-two {a} {b} e = subst⁻¹ (λ (n : ℕ). (a ≤ n) × (b ≤ n) × (n ≤ a + b)) e (le-max-left a b, le-max-right a b, max-le (omega arith) (omega arith))
 
 module _ (ws : List ℤ) (n : ℕ) where
   pub matched-names : (cs : List ℤ) (starts ends : List ℕ) → SomeMatched ws cs n starts ends → Names ws n
@@ -128,16 +133,35 @@ module _ (ws : List ℤ) (n : ℕ) where
           record { is = λ rule g ρ h m v. k .is ρ (single (rule .right)) (encode (single h)) (right-at rule g ρ m h v); many = λ rule g ρ h m v. k .many ρ (single (rule .right)) (encode (single h)) (right-at rule g ρ m h v) }
 
     -- ---- its sizes: what they show, and that they are small
-    module _ (fixed leaves : ℕ) (x : SizesAre ws n fixed leaves) where
-      pub shown-is : (room : ℕ) → 2 * fixed + leaves * length cs ≤ room → FitsIs ws cs n starts ends room true
-      shown-is room k =
-          record { is = λ rule g ρ h m v. let most = words-most cs starts ends ρ (m .binds) (single (rule .right)) (encode (single h)) (emits rule g ρ m h v) in let few : length (encode (single h)) ≤ 2 * fixed + leaves * length cs = rw (x .ones (m .at .table) rule (m .at .is) (m .at .numbered), x .variables (m .at .table) rule (m .at .is) (m .at .numbered)) most in sym (le-leb (length (encode (single h))) room (omega arith)) }
+    module _ (fixed leaves : ℕ) (x : SizesAre ws n fixed leaves) (from to : ℕ) (y : PartIs rightWords ws n from to) (most : ℕ) where
+      pub shown-is : length cs ≤ most → to - from ≤ most → (room : ℕ) → 2 * fixed + leaves * most ≤ room → FitsIs ws cs n starts ends room true
+      shown-is long wide room k =
+          record {
+            is = λ rule g ρ h m v.
+                let e = y .ends (m .at .table) rule (m .at .is) (m .at .numbered) in
+                let w : length (encode (single (rule .right))) ≤ most = omega (arith, e) in
+                let all = words-most cs starts ends ρ (m .binds) most long (single (rule .right)) (encode (single h)) (good rule (okay rule g ρ m) .expression-term) w (emits rule g ρ m h v) in
+                let few : length (encode (single h)) ≤ 2 * fixed + leaves * most = rw (x .ones (m .at .table) rule (m .at .is) (m .at .numbered), x .variables (m .at .table) rule (m .at .is) (m .at .numbered)) all in
+                sym (le-leb (length (encode (single h))) room (omega arith));
+          }
 
-      pub sizes-small : SomeMatched ws cs n starts ends → (fixed ≤ 512) × (leaves * length cs ≤ 512 * 65536)
-      sizes-small s =
+      -- the right's words are few, and so is what its sizes show
+      pub right-few : SomeMatched ws cs n starts ends → (from ≤ to) × (to - from ≤ 1024)
+      right-few s =
+          let a = s .is .at in
+          let e = y .ends (a .table) (s .rule) (a .is) (a .numbered) in
+          let t = s .rule .right in
+          let small = good (s .rule) (okay (s .rule) (s .configuration) (s .valuation) (s .is)) .right .small in
+          let q = encode-length (single t) in
+          (omega arith, omega (arith, e, small, q))
+
+      pub sizes-small : most ≤ length cs + (to - from) → SomeMatched ws cs n starts ends → (fixed ≤ 2048) × (leaves * most ≤ 2048 * 66560)
+      sizes-small h s =
           let a = s .is .at in
           let p = x .ones (a .table) (s .rule) (a .is) (a .numbered) in
           let q = x .variables (a .table) (s .rule) (a .is) (a .numbered) in
           let k = sizes-few (single (s .rule .right)) in
           let small = good (s .rule) (okay (s .rule) (s .configuration) (s .valuation) (s .is)) .right .small in
-          (omega arith, mul-le-mul {n₂ = 512} {m₂ = 65536} (omega arith) (configuration-most cs (s .configuration) (a .configuration)))
+          let c = configuration-most cs (s .configuration) (a .configuration) in
+          let few = right-few s .1 in
+          (omega arith, mul-le-mul {n₂ = 2048} {m₂ = 66560} (omega arith) (omega arith))

@@ -2,9 +2,15 @@
 use term::Places;
 use value::Evaluated;
 use value::Value;
-ghost use Prim.Native.Nat.{_<_};
+ghost use Prim.Native.Nat.{_+_, _≤_, _<_};
 ghost use lib.ListN.{length};
-ghost use Rattle.step.specs.Right.{SomeRest, ItemIs, SomePiece, PieceIs, OneNodeIs, SizedIs, MeasureRightIs, FittingItem, WriteItemIs, FittingRest, WriteRightIs};
+ghost use Rattle.minuska.specs.Bridge.Place.{Decides};
+ghost use Rattle.step.specs.Right.{SomeRest, ItemIs, SomePiece, PieceIs, IsUpdate, NoUpdate, PartsAre, OneNodeIs, SizedIs, MeasureRightIs, FittingItem, WriteItemIs, FittingRest, WriteRightIs};
+
+// The codes of the functions whose value is not one node, as words: a lookup's is a part of either slice, an update's is no part of any.
+const LOOKUP: i64 = term::LOOKUP as i64;
+
+const UPDATE: i64 = term::UPDATE as i64;
 
 // One item that is no call, where it lies: a variable's part of the configuration, or a node's two words of the table.
 pub fn piece(table: &[i64], at: usize, starts: &Places, ends: &Places) -> Evaluated
@@ -26,7 +32,21 @@ pub fn piece(table: &[i64], at: usize, starts: &Places, ends: &Places) -> Evalua
     }
 }
 
-// One item: a call's value; else where it lies.
+// Whether an update stands at a place.
+fn is_update(table: &[i64], at: usize) -> bool
+    requires { ⌜ at + 2 ≤ length (now table) ⌝ }
+    ensures { λ r. ⌜ Decides r (IsUpdate (now (table .entry)) at) ⌝ }
+{
+    if term::word(table, at) != term::CALL {
+        return false;
+    }
+    if term::word(table, at + 1) != UPDATE {
+        return false;
+    }
+    true
+}
+
+// One item that is no update: a call's value; else where it lies.
 pub fn item(
     table: &[i64],
     configuration: &[i64],
@@ -35,7 +55,7 @@ pub fn item(
     starts: &Places,
     ends: &Places,
 ) -> Evaluated
-    requires { ⌜ SomeRest (now table) (now configuration) (now starts) (now ends) at end × (at < end) ⌝ }
+    requires { ⌜ SomeRest (now table) (now configuration) (now starts) (now ends) at end × (at < end) × NoUpdate (now table) at ⌝ }
     ensures { λ r. ⌜ ItemIs (now (table .entry)) (now (configuration .entry)) (now (starts .entry)) (now (ends .entry)) at end r ⌝ }
 {
     if term::word(table, at) == term::CALL {
@@ -50,21 +70,89 @@ pub struct Sized {
     pub next: usize,
 }
 
-// Whether a call stands at a place whose value is one node, whatever its arguments are worth: so is every call's. Such a call is measured without its value.
+// Whether a call stands at a place whose value is one node, whatever its arguments are worth: so is every call's but a lookup's and an update's. Such a call is
+// measured without its value.
 fn gives_one_node(table: &[i64], at: usize) -> bool
-    requires { ⌜ at < length (now table) ⌝ }
+    requires { ⌜ at + 2 ≤ length (now table) ⌝ }
     ensures { λ r. ⌜ OneNodeIs (now (table .entry)) at r ⌝ }
 {
     if term::word(table, at) == term::CALL {
+        let code = term::word(table, at + 1);
+        if code == LOOKUP {
+            return false;
+        }
+        if code == UPDATE {
+            return false;
+        }
         return true;
     }
     false
 }
 
-// One item's size.
-pub fn item_size(
+// An update's arguments' values, a dictionary, a key and a term, and the place behind it.
+pub struct Parts {
+    pub dictionary: Value,
+    pub key: Value,
+    pub term: Value,
+    pub next: usize,
+}
+
+// The values of the arguments of the update that stands at a place.
+fn update_parts(
     table: &[i64],
     configuration: &[i64],
+    at: usize,
+    end: usize,
+    starts: &Places,
+    ends: &Places,
+) -> Parts
+    requires { ⌜ SomeRest (now table) (now configuration) (now starts) (now ends) at end × (at < end) × IsUpdate (now table) at ⌝ }
+    ensures { λ r. ⌜ PartsAre (now (table .entry)) (now (configuration .entry)) (now (starts .entry)) (now (ends .entry)) at end r ⌝ }
+{
+    let x = value::evaluate(table, configuration, at + 2, starts, ends);
+    let dictionary = x.value;
+    let i = x.next;
+    let y = value::evaluate(table, configuration, i, starts, ends);
+    let key = y.value;
+    let j = y.next;
+    let z = value::evaluate(table, configuration, j, starts, ends);
+    let term = z.value;
+    Parts {
+        dictionary: dictionary,
+        key: key,
+        term: term,
+        next: z.next,
+    }
+}
+
+// AN UPDATE'S SIZE.
+fn update_size<'a>(
+    table: &'a [i64],
+    configuration: &'a [i64],
+    at: usize,
+    end: usize,
+    starts: &Places,
+    ends: &Places,
+) -> Sized
+    requires { ⌜ SomeRest (now table) (now configuration) (now starts) (now ends) at end × (at < end) × IsUpdate (now table) at ⌝ }
+    ensures { λ r. ⌜ SizedIs (now (table .entry)) (now (configuration .entry)) (now (starts .entry)) (now (ends .entry)) at end r ⌝ }
+{
+    let p = update_parts(table, configuration, at, end, starts, ends);
+    let d = p.dictionary;
+    let k = p.key;
+    let v = p.term;
+    let plan = value::update::plan_of(table, configuration, d, k);
+    let n = value::update::plan_size(table, configuration, d, plan, v);
+    Sized {
+        words: n,
+        next: p.next,
+    }
+}
+
+// One item's size.
+pub fn item_size<'a>(
+    table: &'a [i64],
+    configuration: &'a [i64],
     at: usize,
     end: usize,
     starts: &Places,
@@ -80,6 +168,9 @@ pub fn item_size(
             next: next,
         };
     }
+    if is_update(table, at) {
+        return update_size(table, configuration, at, end, starts, ends);
+    }
     let x = item(table, configuration, at, end, starts, ends);
     let v = x.value;
     let n = value::size(v);
@@ -90,9 +181,9 @@ pub fn item_size(
 }
 
 // Whether there is room for the words of the items from a place up to another.
-pub fn measure_right(
-    table: &[i64],
-    configuration: &[i64],
+pub fn measure_right<'a>(
+    table: &'a [i64],
+    configuration: &'a [i64],
     at: usize,
     end: usize,
     starts: &Places,
@@ -122,7 +213,33 @@ pub struct Written {
     pub next: usize,
 }
 
-// Writes one item's words from a place of out on: a short call's two as they are computed, a node's two, else those of the item's value.
+// AN UPDATE'S WORDS.
+fn write_update<'a>(
+    table: &'a [i64],
+    configuration: &'a [i64],
+    at: usize,
+    end: usize,
+    starts: &Places,
+    ends: &Places,
+    out: &mut [i64],
+    o: usize,
+) -> Written
+    requires { ⌜ FittingItem (now table) (now configuration) (now starts) (now ends) at end o (length (now out)) × IsUpdate (now table) at ⌝ }
+    ensures { λ r. ⌜ WriteItemIs (now (table .entry)) (now (configuration .entry)) (now (starts .entry)) (now (ends .entry)) at end (now (out .entry)) o (now (out .exit)) r ⌝ }
+{
+    let p = update_parts(table, configuration, at, end, starts, ends);
+    let d = p.dictionary;
+    let k = p.key;
+    let v = p.term;
+    let plan = value::update::plan_of(table, configuration, d, k);
+    let e = value::update::put_plan(out, o, table, configuration, d, plan, v);
+    Written {
+        place: e,
+        next: p.next,
+    }
+}
+
+// Writes one item's words from a place of out on.
 pub fn write_item<'a>(
     table: &'a [i64],
     configuration: &'a [i64],
@@ -134,6 +251,26 @@ pub fn write_item<'a>(
     o: usize,
 ) -> Written
     requires { ⌜ FittingItem (now table) (now configuration) (now starts) (now ends) at end o (length (now out)) ⌝ }
+    ensures { λ r. ⌜ WriteItemIs (now (table .entry)) (now (configuration .entry)) (now (starts .entry)) (now (ends .entry)) at end (now (out .entry)) o (now (out .exit)) r ⌝ }
+{
+    if is_update(table, at) {
+        return write_update(table, configuration, at, end, starts, ends, out, o);
+    }
+    write_value(table, configuration, at, end, starts, ends, out, o)
+}
+
+// The words of an item that is no update: a short call's two as they are computed, a node's two, else those of the item's value.
+fn write_value<'a>(
+    table: &'a [i64],
+    configuration: &'a [i64],
+    at: usize,
+    end: usize,
+    starts: &Places,
+    ends: &Places,
+    out: &mut [i64],
+    o: usize,
+) -> Written
+    requires { ⌜ FittingItem (now table) (now configuration) (now starts) (now ends) at end o (length (now out)) × NoUpdate (now table) at ⌝ }
     ensures { λ r. ⌜ WriteItemIs (now (table .entry)) (now (configuration .entry)) (now (starts .entry)) (now (ends .entry)) at end (now (out .entry)) o (now (out .exit)) r ⌝ }
 {
     let tag = term::word(table, at);

@@ -3,6 +3,7 @@ use crate::how_far::HowFar;
 use minuska::Index;
 use term::Places;
 ghost use mathlib.Core.Path.{_≡_};
+ghost use Prim.Native.Nat.{max};
 ghost use lib.ListN.{length};
 ghost use Rattle.minuska.specs.Bridge.Place.{Indexed, Names, Accepted, Decides};
 ghost use Rattle.step.specs.Apply.{SomeMatched, MatchIs, HoldIs, JudgeIs, FitsIs, WordsFit, WriteIs};
@@ -87,13 +88,23 @@ pub fn hold_conditions<'a>(
     )
 }
 
-// Whether there is room for the words of the rule's successor. There is if the right's sizes show it: two words for each node that gives one, and for each
-// variable, whose term is a part of the configuration, no more than the configuration has. Else the right is measured.
-pub fn fits(
-    table: &[i64],
+// The greater of two numbers.
+fn greater(a: usize, b: usize) -> usize
+    ensures { λ r. ⌜ r ≡ max a b ⌝ }
+{
+    if a < b {
+        return b;
+    }
+    a
+}
+
+// Whether there is room for the words of the rule's successor. There is if the right's sizes show it: two words for each node that gives one, and for each term
+// that is a part of the configuration or of a literal of the right, no more than the greater of the two has. Else the right is measured.
+pub fn fits<'a>(
+    table: &'a [i64],
     index: &Index,
     rule: usize,
-    configuration: &[i64],
+    configuration: &'a [i64],
     starts: &Places,
     ends: &Places,
     room: usize,
@@ -102,10 +113,11 @@ pub fn fits(
     ensures { λ r. ⌜ FitsIs (now (table .entry)) (now (configuration .entry)) rule (now (starts .entry)) (now (ends .entry)) room r ⌝ }
 {
     let sizes = table::index::sizes(table, index, rule);
-    if 2 * sizes.fixed + sizes.leaves * configuration.len() <= room {
+    let right = table::index::right(table, index, rule);
+    let most = greater(configuration.len(), right.to - right.from);
+    if 2 * sizes.fixed + sizes.leaves * most <= room {
         return true;
     }
-    let right = table::index::right(table, index, rule);
     crate::right::measure_right(
         table,
         configuration,

@@ -1,10 +1,9 @@
 -- Keys: the key that `key` computes; the rules that `seek` passes over.
-use mathlib.Core.Path.{_≡_, refl, sym, _∙_, ap, ap₂, subst⁻¹}
-use mathlib.Core.Bool.{Bool, cond}
+use mathlib.Core.Path.{_≡_, refl, sym, _∙_, ap, ap₂}
 use mathlib.Core.Logic.{_⊎_, inl, inr}
 use mathlib.Core.Option.{some}
 use mathlib.Core.List.{List}
-use Prim.Native.Nat.{ℕ, suc, _+_, _*_, _%_, _^_, _≤_, _<_}
+use Prim.Native.Nat.{ℕ, _+_, _*_, _%_, _^_, _≤_, _<_}
 use native.Mathlib.Decide.{ℕ-discrete}
 use native.Mathlib.Omega.{arith}
 use lib.IntN.{ℤ, pos, negsuc}
@@ -14,9 +13,9 @@ use Rattle.minuska.specs.Term.{Term}
 use Rattle.minuska.specs.Word.{datumWord}
 use Rattle.minuska.specs.Rule.{Rule, Table, IsTable, IsConfiguration}
 use Rattle.minuska.specs.Computed.Step.{order}
-use Rattle.minuska.specs.Bridge.Place.{keyOf, rootTag, rootKey, RootMeets, perRule, Indexed, OrderedIs, Positions, KeysDiffer, RootsPassed, Accepted}
+use Rattle.minuska.specs.Bridge.Place.{keyOf, rootKey, RootMeets, perRule, Indexed, OrderedIs, Positions, KeysDiffer, RootsPassed, Accepted}
 use Rattle.minuska.proofs.Bridge.IndexLaw.{rule-placed}
-use Rattle.minuska.proofs.Bridge.PositionLaw.{element-at, few-rules, order-length, order-names}
+use Rattle.minuska.proofs.Bridge.PositionLaw.{element-at, few-rules, order-names}
 use Rattle.table.specs.Number.{naturalOf}
 
 -- ---- what `key` answers

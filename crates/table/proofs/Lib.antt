@@ -5,10 +5,15 @@ pub mod TurnLaw
 pub mod ReachLaw
 pub mod ScanLaw
 pub mod SizeLaw
+pub mod MetLaw
+pub mod LoopLaw
+pub mod CallLaw
 pub mod PartLaw
 pub mod TestLaw
 pub mod KeepLaw
 pub mod GroundLaw
+pub mod KindLaw
+pub mod PlainLaw
 pub mod SideLaw
 pub mod ConditionLaw
 pub mod RuleLaw

@@ -1,17 +1,19 @@
 -- How far a walk over terms of one level has come: turn by turn, and from the node at a place.
 use mathlib.Core.Path.{_≡_, refl, sym, _∙_, ap}
-use mathlib.Core.Bool.{Bool}
+use mathlib.Core.Bool.{Bool, true, false}
 use mathlib.Core.List.{List, _∷_, _++_, append-assoc}
 use Prim.Native.Nat.{ℕ, suc, _+_, _-_, _≤_, _<_}
 use native.Mathlib.Omega.{arith}
+use lib.Dec.{ltb}
 use lib.IntN.{ℤ, pos}
 use lib.ListN.{length, drop, getD, replicate, length-drop, replicate-append-replicate}
+use borrow.Author.Tests.{ltb-true, ltb-false}
 use Rattle.minuska.specs.Computed.Read.{maxChildren}
 use Rattle.table.specs.Level.{Level}
 use Rattle.table.specs.declared.node.Node.{Node}
 use Rattle.table.specs.Below.{Below}
 use Rattle.table.specs.Below as B
-use Rattle.table.specs.Node.{nodeOf, admitNode, flagNode, admitted, seenAfter}
+use Rattle.table.specs.Node.{NodeAt, NoneAt, admitNode, flagNode, admitted, seenAfter}
 use Rattle.table.specs.Walk.{onward, walk}
 use Rattle.table.specs.Reach.{Reaches, Stops, TurnOn}
 use Rattle.table.proofs.NodeLaw.{admitted-few}
@@ -50,17 +52,12 @@ module _ (ws : List ℤ) (l : Level) (at n : ℕ) (seen : List Bool) where
   reach-done e k s r z = record { later = r .later; inside = r .inside; same = λ ls. r .same ls ∙ ap (λ (j : ℕ). walk (drop e ws) e (replicate j l ++ ls) s) z }
 
 -- ---- one turn
-pub turn-short : (ws : List ℤ) (l : Level) (i : ℕ) (seen : List Bool) → length ws - i < 2 → Stops ws l i 1 seen seen
-turn-short ws l i seen h = record { nowhere = λ ls. walk-short (drop i ws) i l ls seen (simp length-drop h) }
-
-module _ (ws : List ℤ) (l : Level) (i : ℕ) (seen : List Bool) (h : i + 2 ≤ length ws) (t d : ℤ) (et : t ≡ getD ws i (pos 0)) (ed : d ≡ getD ws (i + 1) (pos 0)) (n : Node) (en : n ≡ nodeOf t d) where
+module _ {ws : List ℤ} {i : ℕ} {n : Node} (h : NodeAt ws i n) (l : Level) (seen : List Bool) where
   node-turn : (ls : List Level) → walk (drop i ws) i (l ∷ ls) seen ≡ onward (admitNode l seen n) ls (flagNode l seen n) (λ ms s. walk (drop (i + 2) ws) (i + 2) ms s)
   unfolding admitted seenAfter
   node-turn ls =
-      ap (λ (x : List ℤ). walk x i (l ∷ ls) seen) (two-words ws i h) ∙
-      (ap (λ (x : ℤ). walk (x ∷ getD ws (i + 1) (pos 0) ∷ drop (i + 2) ws) i (l ∷ ls) seen) (sym et) ∙
-      (ap (λ (x : ℤ). walk (t ∷ x ∷ drop (i + 2) ws) i (l ∷ ls) seen) (sym ed) ∙
-      ap (λ (x : Node). onward (admitNode l seen x) ls (flagNode l seen x) (λ ms s. walk (drop (i + 2) ws) (i + 2) ms s)) (sym en)))
+      ap (λ (x : List ℤ). walk x i (l ∷ ls) seen) (two-words ws i (h .room)) ∙
+      ap (λ (x : Node). onward (admitNode l seen x) ls (flagNode l seen x) (λ ms s. walk (drop (i + 2) ws) (i + 2) ms s)) (sym (h .is))
 
   -- a node that may not stand there
   pub turn-refused : admitNode l seen n ≡ B.Bad → Stops ws l i 1 seen (flagNode l seen n)
@@ -72,7 +69,7 @@ module _ (ws : List ℤ) (l : Level) (i : ℕ) (seen : List Bool) (h : i + 2 ≤
 
     pub turn-few : k ≤ maxChildren
     unfolding admitted
-    turn-few = admitted-few l seen b k t d (sym (ap (admitNode l seen) en) ∙ q)
+    turn-few = admitted-few l seen b k (getD ws i (pos 0)) (getD ws (i + 1) (pos 0)) (sym (ap (admitNode l seen) (h .is)) ∙ q)
 
     -- children of a deeper level are walked in the same turn
     pub turn-below : (e : ℕ) (s : List Bool) → Reaches ws b (i + 2) k (flagNode l seen n) e 0 s → TurnOn ws l i seen s e 0
@@ -84,5 +81,13 @@ module _ (ws : List ℤ) (l : Level) (i : ℕ) (seen : List Bool) (h : i + 2 ≤
     turn-below-stops s r = record { nowhere = λ ls. into ls ∙ r .nowhere ls }
 
   -- children of the same level are to come
-  pub turn-children : (k : ℕ) → admitNode l seen n ≡ B.Are l k → TurnOn ws l i seen (flagNode l seen n) (i + 2) k
-  turn-children k q = record { on = omega arith; few = turn-few l k q; reaches = record { later = omega arith; inside = h; same = λ ls. into l k q ls } }
+  pub turn-children : (k : ℕ) → k ≤ 7 → admitNode l seen n ≡ B.Are l k → TurnOn ws l i seen (flagNode l seen n) (i + 2) k
+  turn-children k f q = record { on = omega arith; few = f; reaches = record { later = omega arith; inside = h .room; same = λ ls. into l k q ls } }
+
+-- no node stands there
+pub turn-none : {ws : List ℤ} {i : ℕ} → NoneAt ws i → (l : Level) (seen : List Bool) → Stops ws l i 1 seen seen
+turn-none {ws} {i} h l seen = pick (ltb (length ws) (i + 2)) refl
+  where
+    pick : (b : Bool) → ltb (length ws) (i + 2) ≡ b → Stops ws l i 1 seen seen
+    pick false q = let r = ltb-false (length ws) (i + 2) q in turn-refused (record { room = r; is = h .none r }) l seen refl
+    pick true q = let r = ltb-true (length ws) (i + 2) q in record { nowhere = λ ls. walk-short (drop i ws) i l ls seen (simp length-drop (omega arith)) }

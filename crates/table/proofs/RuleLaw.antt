@@ -1,13 +1,13 @@
 -- The parts that `rule_parts` finds are those of the rule that is read there.
 use mathlib.Core.Path.{_≡_, refl, sym, _∙_, ap, subst}
-use mathlib.Core.Bool.{Bool, false, _&&_}
+use mathlib.Core.Bool.{Bool, _&&_}
 use mathlib.Core.Option.{Option, none, some}
 use mathlib.Core.List.{List, [], _∷_}
 use Prim.Native.Nat.{ℕ, _+_, _≤_, _<_}
 use native.Mathlib.Omega.{arith}
 use lib.Dec.{T, leb, ltb, le→leb, lt→ltb}
 use lib.IntN.{ℤ, pos}
-use lib.ListN.{length, drop, getD, replicate, length-append, length-drop}
+use lib.ListN.{length, drop, getD, length-append, length-drop}
 use Rattle.minuska.specs.Basics.{_>>=_, provided, every}
 use Rattle.minuska.specs.Term.{Term, single, nodeCount}
 use Rattle.minuska.specs.Word.{ok, encode}
@@ -20,6 +20,7 @@ use Rattle.minuska.proofs.Good.{good, good-term}
 use Rattle.minuska.proofs.SpanLaw.{read-term-iff}
 use Rattle.minuska.proofs.Bridge.PlaceLaw.{stands-of}
 use Rattle.table.specs.Level.{Left, Right}
+use Rattle.table.specs.Node.{unseen}
 use Rattle.table.specs.Number.{naturalOf}
 use Rattle.table.specs.Walk.{partEnd, partSeen}
 use Rattle.table.specs.Size.{Counts}
@@ -46,9 +47,6 @@ rightThen n k l p = readConditions k (p .1) >>= conditionsThen n l (p .0)
 abbrev leftThen : ℕ → ℕ → Term × List ℤ → Option (Rule × List ℤ)
 leftThen n k p = readTerm (p .1) >>= rightThen n k (p .0)
 
-abbrev pub unseen : List Bool
-unseen = replicate 16 false
-
 -- a left between two places, and the flags after it
 pub record LeftFound (ws : List ℤ) (at e : ℕ) : Type 0 where
   pub term : Term
@@ -62,7 +60,7 @@ pub left-found : (ws : List ℤ) (at e : ℕ) → partEnd ws at Left unseen ≡ 
 left-found ws at e h =
     let p = part-found ws at Left unseen e h in
     let t = single (p .term) in
-    let w = provided-some (isSymbolic t) (marks t unseen) (partSeen ws at Left unseen) (sym (scan-left t unseen) ∙ p .scanned) in
+    let w = provided-some (isSymbolic t) (marks t unseen) (partSeen ws at Left unseen) (sym (scan-left t (p .inRange) unseen) ∙ p .scanned) in
     record {
       term = p .term;
       read = p .read;
@@ -140,7 +138,7 @@ module _ (ws : List ℤ) (at k : ℕ) (head : Head ws at k) where
       refused (okRule (ruleOf n (l .0) (r .0) (cs .0))) (ruleOf n (l .0) (r .0) (cs .0), cs .1) (λ x.
       let y = good (ruleOf n (l .0) (r .0) (cs .0)) x in
       let t = single (l .0) in
-      part-missed ws (leftFrom at) Left unseen h l e (y .left .small) (marks t unseen) (scan-left t unseen ∙ provided-true (isSymbolic t) (marks t unseen) (y .symbolic))))))
+      part-missed ws (leftFrom at) Left unseen h l e (y .left .small) (marks t unseen) (scan-left t (y .left .inRange) unseen ∙ provided-true (isSymbolic t) (marks t unseen) (y .symbolic))))))
 
   module _ (right : ℕ) (hl : partEnd ws (leftFrom at) Left unseen ≡ some right) where
     the-left : LeftFound ws (leftFrom at) right

@@ -3,31 +3,35 @@ use mathlib.Core.Path.{_≡_, refl, sym, _∙_, ap, ap₂, subst, subst⁻¹}
 use mathlib.Core.Bool.{Bool}
 use mathlib.Core.Option.{some, Option·some-injective}
 use mathlib.Core.List.{List, [], _∷_, _++_}
-use Prim.Native.Nat.{ℕ, _+_, _-_, _<_}
+use Prim.Native.Nat.{ℕ, suc, _+_, _-_, _/_, _<_}
 use native.Mathlib.Omega.{arith}
 use lib.Dec.{T}
 use lib.IntN.{ℤ, pos}
 use lib.ListN.{length, drop, getD, replicate}
 use Rattle.minuska.specs.Basics.{_>>=_}
-use Rattle.minuska.specs.Term.{Label, Forest, nil, node, Term, single, termCount, Role, aVariable, aCall, plain, role}
+use Rattle.minuska.specs.Term.{Label, Forest, nil, node, Term, single, termCount, nodes, isGround}
+use Rattle.minuska.specs.Term as R
 use Rattle.minuska.specs.Word.{tagWord, datumWord, ok, encode}
 use Rattle.minuska.specs.Bridge.Place.{Stands}
-use Rattle.minuska.specs.Bridge.Walk.{fixedNodes, variableNodes}
+use Rattle.minuska.specs.Bridge.Walk.{fixedCall, leavesCall, fixedNodes, variableNodes}
 use Rattle.minuska.proofs.Tests.{came}
-use Rattle.minuska.proofs.NodeLaw.{NodeIs, node-is}
-use Rattle.minuska.proofs.WordLaw.{okay, head-okay, read-node, childless, appended, encode-appended}
+use Rattle.minuska.proofs.NodeLaw.{NodeIs}
+use Rattle.minuska.proofs.WordLaw.{okay, head-okay, read-node, childless, appended, encode-appended, encode-length}
 use Rattle.minuska.proofs.Bridge.AppendedLaw.{appended-count, appended-ok}
 use Rattle.minuska.proofs.Bridge.PlaceLaw.{stands-first, stands-second, stands-head, stands-word, stands-then}
-use Rattle.minuska.proofs.Bridge.SizeLaw.{variable-sizes, call-sizes, plain-sizes}
+use Rattle.minuska.proofs.Bridge.ShapeLaw.{ok-shapely}
+use Rattle.minuska.proofs.Bridge.SizeLaw.{variable-sizes, call-sizes, plain-sizes, literal-sizes}
 use Rattle.term.specs.declared.Place.the-variants as P
 use Rattle.table.specs.declared.node.Node.the-variants as N
 use Rattle.table.specs.declared.side.Sized.the-variants as S
-use Rattle.table.specs.Level.{Level, Expression}
-use Rattle.table.specs.Node.{nodeAs, nodeIn, nodeOf}
+use Rattle.table.specs.Level.{Level, Expression, Ground}
+use Rattle.table.specs.Node.{Kind, aVariable, aCall, plain, literal, kind, nodeAs, nodeIn, nodeOf, NodeAt}
 use Rattle.table.specs.Walk.{walk, PartContract}
 use Rattle.table.specs.Reach.{Reaches}
 use Rattle.table.specs.Size.{Remains, Counts, SidePartContract}
 use Rattle.table.proofs.BasicLaw.{never}
+use Rattle.table.proofs.NodeLaw.{roleOf, role-kind, node-kind}
+use Rattle.table.proofs.TestLaw.{Placed, placed-of}
 use Rattle.table.proofs.TurnLaw.{walk-done}
 use Rattle.table.proofs.ScanLaw.{scan, found, walk-encode}
 
@@ -72,18 +76,18 @@ walk-ends ws l at e seen seen′ f x s r =
     let n = at + length (encode f) in
     let here : found (walk (drop at ws) at (replicate (termCount f) l ++ []) seen) ≡ some (e, seen′) = ap found (r .same [] ∙ walk-done (drop e ws) e seen′) in
     let there : found (walk (drop at ws) at (replicate (termCount f) l ++ []) seen) ≡ (scan l f seen >>= λ s. found (walk (drop n ws) n [] s)) =
-    ap (λ (v : List ℤ). found (walk v at (replicate (termCount f) l ++ []) seen)) (stands-then s) ∙ walk-encode f x l [] at (drop n ws) seen in
+    ap (λ (v : List ℤ). found (walk v at (replicate (termCount f) l ++ []) seen)) (stands-then s) ∙ walk-encode f (ok-shapely f x) l [] at (drop n ws) seen in
     let c = came (scan l f seen) (λ s. found (walk (drop n ws) n [] s)) (e, seen′) (sym there ∙ here) in
     let g : Path (ℕ × List Bool) (n, c .0) (e, seen′) = Option·some-injective (n, c .0) (e, seen′) (sym (ap found (walk-done (drop n ws) n (c .0))) ∙ c .2) in
     sym (ap (λ (p : ℕ × List Bool). p .0) g)
 
 -- ---- one turn: the node at a place is the first of whatever terms stand there
-module _ (ws : List ℤ) (i : ℕ) (t d : ℤ) (et : t ≡ getD ws i (pos 0)) (ed : d ≡ getD ws (i + 1) (pos 0)) where
+module _ {ws : List ℤ} {i : ℕ} where
   module _ (l : Label) (cs ss : Forest) (x : T (ok (node l cs ss))) (s : Stands ws i (encode (node l cs ss))) where
-    as-read : nodeOf t d ≡ nodeAs (role l) (termCount cs)
+    as-read : nodeOf (getD ws i (pos 0)) (getD ws (i + 1) (pos 0)) ≡ nodeAs (kind l) (termCount cs)
     unfolding nodeOf
     as-read =
-        ap₂ nodeOf (et ∙ stands-head s (pos 0)) (ed ∙ stands-word s 1 (pos 0) (omega arith)) ∙
+        ap₂ nodeOf (stands-head s (pos 0)) (stands-word s 1 (pos 0) (omega arith)) ∙
         ap nodeIn (read-node l (termCount cs) (head-okay l cs (okay l cs ss x .allowed)))
 
     below-stands : Stands ws (i + 2) (encode cs ++ encode ss)
@@ -93,18 +97,19 @@ module _ (ws : List ℤ) (i : ℕ) (t d : ℤ) (et : t ≡ getD ws i (pos 0)) (e
     rest-stands = stands-second (encode cs) (encode ss) below-stands
 
   -- a symbol's children are to come, in front of the rest
-  module _ (k : ℕ) (en : N.Plain k ≡ nodeOf t d) where
+  module _ {k : ℕ} (h : NodeAt ws i (N.Plain k)) where
     plain-remains : (f : Forest) (more : ℕ) → T (ok f) → termCount f ≡ 1 + more → Stands ws i (encode f) → Remains ws f (i + 2) (k + more) 1 0
     plain-remains nil more x c s = absurd (let z : ⊥ = omega arith in z)
-    plain-remains (node l cs ss) more x c s = pick (role l) refl (en ∙ as-read l cs ss x s)
+    plain-remains (node l cs ss) more x c s = pick (kind l) refl (h .is ∙ as-read l cs ss x s)
       where
-        pick : (r : Role) → role l ≡ r → N.Plain k ≡ nodeAs r (termCount cs) → Remains ws (node l cs ss) (i + 2) (k + more) 1 0
-        pick (aVariable v) q h = absurd (never (cc))
-        pick (aCall j) q h = absurd (never (cc))
-        pick plain q h =
+        pick : (r : Kind) → kind l ≡ r → N.Plain k ≡ nodeAs r (termCount cs) → Remains ws (node l cs ss) (i + 2) (k + more) 1 0
+        pick (aVariable v) q y = absurd (never (cc))
+        pick (aCall j) q y = absurd (never (cc))
+        pick literal q y = absurd (never (cc))
+        pick plain q y =
             let p : k ≡ termCount cs = cc in
             let o = okay l cs ss x in
-            let z = plain-sizes l cs ss q in
+            let z = plain-sizes l cs ss (role-kind l ∙ ap roleOf q) in
             let n = appended-count cs ss in
             record {
               rest = appended cs ss;
@@ -119,35 +124,68 @@ module _ (ws : List ℤ) (i : ℕ) (t d : ℤ) (et : t ≡ getD ws i (pos 0)) (e
     plain-counts = record { remains = plain-remains }
 
   -- a call's arguments were walked
-  module _ (k : ℕ) (en : N.Call k ≡ nodeOf t d) (e : ℕ) (seen seen′ : List Bool) (w : Reaches ws Expression (i + 2) k seen e 0 seen′) where
-    call-remains : (f : Forest) (more : ℕ) → T (ok f) → termCount f ≡ 1 + more → Stands ws i (encode f) → Remains ws f e (0 + more) 1 0
+  module _ {k code : ℕ} (h : NodeAt ws i (N.Call k code)) (e : ℕ) (seen seen′ : List Bool) (w : Reaches ws Expression (i + 2) k seen e 0 seen′) where
+    call-remains : (f : Forest) (more : ℕ) → T (ok f) → termCount f ≡ 1 + more → Stands ws i (encode f) → Remains ws f e (0 + more) (fixedCall code) (leavesCall code)
     call-remains nil more x c s = absurd (let z : ⊥ = omega arith in z)
-    call-remains (node l cs ss) more x c s = pick (role l) refl (en ∙ as-read l cs ss x s)
+    call-remains (node l cs ss) more x c s = pick (kind l) refl (h .is ∙ as-read l cs ss x s)
       where
-        pick : (r : Role) → role l ≡ r → N.Call k ≡ nodeAs r (termCount cs) → Remains ws (node l cs ss) e (0 + more) 1 0
-        pick (aVariable v) q h = absurd (never (cc))
-        pick plain q h = absurd (never (cc))
-        pick (aCall j) q h =
+        pick : (r : Kind) → kind l ≡ r → N.Call k code ≡ nodeAs r (termCount cs) → Remains ws (node l cs ss) e (0 + more) (fixedCall code) (leavesCall code)
+        pick (aVariable v) q y = absurd (never (cc))
+        pick plain q y = absurd (never (cc))
+        pick literal q y = absurd (never (cc))
+        pick (aCall j) q y =
             let p : k ≡ termCount cs = cc in
+            let z′ : j ≡ code = cc in
             let o = okay l cs ss x in
-            let z = call-sizes l cs ss j q in
+            let z = call-sizes l cs ss code (role-kind l ∙ (ap roleOf q ∙ ap R.aCall z′)) in
             let a : e ≡ i + 2 + length (encode cs) = walk-ends ws Expression (i + 2) e seen seen′ cs (o .children) (stands-first (encode cs) (encode ss) (below-stands l cs ss x s)) (subst (λ (n : ℕ). Reaches ws Expression (i + 2) n seen e 0 seen′) p w) in
             record { rest = ss; good = o .rest; count = omega arith; stands = subst⁻¹ (λ (n : ℕ). Stands ws n (encode ss)) a (rest-stands l cs ss x s); ones = z .ones; variables = z .variables }
 
-    pub call-counts : Counts ws i 1 e 0 1 0
+    pub call-counts : Counts ws i 1 e 0 (fixedCall code) (leavesCall code)
     call-counts = record { remains = call-remains }
 
+  -- all below a dictionary was walked, and is ground
+  module _ {k : ℕ} (h : NodeAt ws i (N.Literal k)) (e : ℕ) (seen seen′ : List Bool) (w : Reaches ws Ground (i + 2) k seen e 0 seen′) where
+    literal-remains : (f : Forest) (more : ℕ) → T (ok f) → termCount f ≡ 1 + more → Stands ws i (encode f) → Remains ws f e (0 + more) ((e - i) / 2) 0
+    literal-remains nil more x c s = absurd (let z : ⊥ = omega arith in z)
+    literal-remains (node l cs ss) more x c s = pick (kind l) refl (h .is ∙ as-read l cs ss x s)
+      where
+        pick : (r : Kind) → kind l ≡ r → N.Literal k ≡ nodeAs r (termCount cs) → Remains ws (node l cs ss) e (0 + more) ((e - i) / 2) 0
+        pick (aVariable v) q y = absurd (never (cc))
+        pick (aCall j) q y = absurd (never (cc))
+        pick plain q y = absurd (never (cc))
+        pick literal q y =
+            let p : k ≡ termCount cs = cc in
+            let o = okay l cs ss x in
+            let g : T (isGround cs) = subst (λ (r : Kind). Placed r cs) q (placed-of l cs (o .allowed)) in
+            let z = literal-sizes l cs ss (role-kind l ∙ ap roleOf q) g in
+            let a : e ≡ i + 2 + length (encode cs) = walk-ends ws Ground (i + 2) e seen seen′ cs (o .children) (stands-first (encode cs) (encode ss) (below-stands l cs ss x s)) (subst (λ (n : ℕ). Reaches ws Ground (i + 2) n seen e 0 seen′) p w) in
+            let n = encode-length cs in
+            let w′ : (e - i) / 2 ≡ suc (nodes cs) = omega arith in
+            record {
+              rest = ss;
+              good = o .rest;
+              count = omega arith;
+              stands = subst⁻¹ (λ (n : ℕ). Stands ws n (encode ss)) a (rest-stands l cs ss x s);
+              ones = z .ones ∙ ap (λ (n : ℕ). n + fixedNodes ss) (sym w′);
+              variables = z .variables;
+            }
+
+    pub literal-counts : Counts ws i 1 e 0 ((e - i) / 2) 0
+    literal-counts = record { remains = literal-remains }
+
   -- a variable has no children
-  module _ (v : ℕ) (en : N.Variable v ≡ nodeOf t d) where
+  module _ {v : ℕ} (h : NodeAt ws i (N.Variable v)) where
     variable-remains : (f : Forest) (more : ℕ) → T (ok f) → termCount f ≡ 1 + more → Stands ws i (encode f) → Remains ws f (i + 2) (0 + more) 0 1
     variable-remains nil more x c s = absurd (let z : ⊥ = omega arith in z)
-    variable-remains (node l cs ss) more x c s = pick (role l) refl (node-is l (termCount cs) (head-okay l cs (okay l cs ss x .allowed))) (en ∙ as-read l cs ss x s)
+    variable-remains (node l cs ss) more x c s = pick (kind l) refl (node-kind l (termCount cs) (head-okay l cs (okay l cs ss x .allowed))) (h .is ∙ as-read l cs ss x s)
       where
-        pick : (r : Role) → role l ≡ r → NodeIs r (tagWord l (termCount cs)) (datumWord l) (termCount cs) → N.Variable v ≡ nodeAs r (termCount cs) → Remains ws (node l cs ss) (i + 2) (0 + more) 0 1
-        pick (aCall j) q m h = absurd (never (cc))
-        pick plain q m h = absurd (never (cc))
-        pick (aVariable u) q m h =
-            let z = variable-sizes l cs ss u q in
+        pick : (r : Kind) → kind l ≡ r → NodeIs (roleOf r) (tagWord l (termCount cs)) (datumWord l) (termCount cs) → N.Variable v ≡ nodeAs r (termCount cs) → Remains ws (node l cs ss) (i + 2) (0 + more) 0 1
+        pick (aCall j) q m y = absurd (never (cc))
+        pick plain q m y = absurd (never (cc))
+        pick literal q m y = absurd (never (cc))
+        pick (aVariable u) q m y =
+            let z = variable-sizes l cs ss u (role-kind l ∙ ap roleOf q) in
             let a : length (encode cs) ≡ 0 = ap (λ (g : Forest). length (encode g)) (childless cs (m .childless)) in
             let b : i + 2 + length (encode cs) ≡ i + 2 = omega arith in
             record { rest = ss; good = okay l cs ss x .rest; count = omega arith; stands = subst (λ (n : ℕ). Stands ws n (encode ss)) b (rest-stands l cs ss x s); ones = z .ones; variables = z .variables }
@@ -155,13 +193,13 @@ module _ (ws : List ℤ) (i : ℕ) (t d : ℤ) (et : t ≡ getD ws i (pos 0)) (e
     pub variable-counts : Counts ws i 1 (i + 2) 0 0 1
     variable-counts = record { remains = variable-remains }
 
--- ---- what `side_part` answers
-module _ (ws : List ℤ) (at : ℕ) (l : Level) (seen seen′ : List Bool) where
+-- ---- what is answered of a side
+module _ {ws : List ℤ} {at : ℕ} {l : Level} {seen seen′ : List Bool} where
   pub no-side : PartContract ws at l seen seen′ P.Nowhere → SidePartContract ws at l seen seen′ S.Nowhere
   no-side p = record { part = p; sizes = λ e fixed leaves q. absurd (never (cc)) }
 
-  pub a-side : (e fixed leaves : ℕ) → PartContract ws at l seen seen′ (P.At e) → Counts ws at 1 e 0 fixed leaves → SidePartContract ws at l seen seen′ (S.At e fixed leaves)
-  a-side e fixed leaves p c = record { part = p; sizes = λ e′ fixed′ leaves′ q. subst₃ q }
+  pub a-side : {e fixed leaves : ℕ} → PartContract ws at l seen seen′ (P.At e) → Counts ws at 1 e 0 fixed leaves → SidePartContract ws at l seen seen′ (S.At e fixed leaves)
+  a-side {e} {fixed} {leaves} p c = record { part = p; sizes = λ e′ fixed′ leaves′ q. subst₃ q }
     where
       subst₃ : {e′ fixed′ leaves′ : ℕ} → S.At e fixed leaves ≡ S.At e′ fixed′ leaves′ → Counts ws at 1 e′ 0 fixed′ leaves′
       subst₃ {e′} {fixed′} {leaves′} q =

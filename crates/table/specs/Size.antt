@@ -2,7 +2,7 @@
 use mathlib.Core.Path.{_≡_}
 use mathlib.Core.Bool.{Bool}
 use mathlib.Core.List.{List}
-use Prim.Native.Nat.{ℕ, _+_, _≤_}
+use Prim.Native.Nat.{ℕ, _+_, _-_, _*_, _≤_}
 use lib.IntN.{ℤ}
 use lib.Dec.{T}
 use Rattle.minuska.specs.Term.{Forest, termCount}
@@ -14,10 +14,12 @@ use Rattle.term.specs.declared.Place.the-variants as P
 use Rattle.table.specs.Level.{Level}
 use Rattle.table.specs.declared.side.SideTurn.{SideTurn}
 use Rattle.table.specs.declared.side.SideTurn.the-variants as U
+use Rattle.table.specs.declared.side.SideEnd.{SideEnd}
+use Rattle.table.specs.declared.side.SideEnd.the-variants as E
 use Rattle.table.specs.declared.side.Sized.{Sized}
 use Rattle.table.specs.declared.side.Sized.the-variants as S
 use Rattle.table.specs.Walk.{PartContract}
-use Rattle.table.specs.Reach.{Reaches, Stops, TurnOn}
+use Rattle.table.specs.Reach.{Reaches, Stops, TurnOn, Met}
 
 -- What is left of some terms: k terms that stand at a place. All before them has these sizes.
 pub record Remains (ws : List ℤ) (f : Forest) (e k fixed leaves : ℕ) : Type 0 where
@@ -33,24 +35,30 @@ pub record Remains (ws : List ℤ) (f : Forest) (e k fixed leaves : ℕ) : Type 
 pub record Counts (ws : List ℤ) (at n e k fixed leaves : ℕ) : Type 0 where
   pub remains : (f : Forest) (more : ℕ) → T (ok f) → termCount f ≡ n + more → Stands ws at (encode f) → Remains ws f e (k + more) fixed leaves
 
--- What one turn answers: how far it comes, and the sizes of what it took, which is one node of the side or less.
-pub record SideTurnOn (ws : List ℤ) (l : Level) (i : ℕ) (seen seen′ : List Bool) (e m fixed leaves : ℕ) : Type 0 where
+-- What one turn answers: how far it comes, and the sizes of what it took, which are few by its words.
+pub record SideTurnOn (ws : List ℤ) (l : Level) (i : ℕ) (seen seen′ : List Bool) (e m fixed leaves : ℕ) (met : Bool) : Type 0 where
   pub turn : TurnOn ws l i seen seen′ e m
-  pub one : fixed + leaves ≤ 1
+  pub small : fixed + leaves ≤ 2 * (e - i)
   pub counts : Counts ws i 1 e m fixed leaves
+  pub order : Met ws i e met
 
 abbrev pub SideTurnIs : List ℤ → Level → ℕ → List Bool → List Bool → SideTurn → Type 0
-SideTurnIs ws l i seen seen′ (U.On e m fixed leaves) = SideTurnOn ws l i seen seen′ e m fixed leaves
+SideTurnIs ws l i seen seen′ (U.On e m fixed leaves met) = SideTurnOn ws l i seen seen′ e m fixed leaves met
 SideTurnIs ws l i seen seen′ U.Bad = Stops ws l i 1 seen seen′
 
--- What the loop answers: the place behind the side, and its sizes.
-pub record SideEnds (ws : List ℤ) (l : Level) (at : ℕ) (seen seen′ : List Bool) (e fixed leaves : ℕ) : Type 0 where
+-- What is answered of a dictionary, whatever the level.
+pub record LiteralTurnIs (ws : List ℤ) (i : ℕ) (r : SideTurn) : Type 0 where
+  pub at : (l : Level) (seen : List Bool) → SideTurnIs ws l i seen seen r
+
+-- What the loop answers: the place behind the side, its sizes, and whether a dictionary was met.
+pub record SideEnds (ws : List ℤ) (l : Level) (at : ℕ) (seen seen′ : List Bool) (e fixed leaves : ℕ) (met : Bool) : Type 0 where
   pub reaches : Reaches ws l at 1 seen e 0 seen′
   pub counts : Counts ws at 1 e 0 fixed leaves
+  pub order : Met ws at e met
 
-abbrev pub SideIs : List ℤ → Level → ℕ → List Bool → List Bool → Sized → Type 0
-SideIs ws l at seen seen′ (S.At e fixed leaves) = SideEnds ws l at seen seen′ e fixed leaves
-SideIs ws l at seen seen′ S.Nowhere = Stops ws l at 1 seen seen′
+abbrev pub SideIs : List ℤ → Level → ℕ → List Bool → List Bool → SideEnd → Type 0
+SideIs ws l at seen seen′ (E.At e fixed leaves met) = SideEnds ws l at seen seen′ e fixed leaves met
+SideIs ws l at seen seen′ E.Nowhere = Stops ws l at 1 seen seen′
 
 -- What is found at a place where a side should start: the place behind it, and its sizes.
 abbrev pub placeOf : Sized → Place

@@ -3,11 +3,12 @@ use mathlib.Core.Path.{_≡_}
 use mathlib.Core.Bool.{Bool}
 use mathlib.Core.Option.{Option, none, some}
 use mathlib.Core.List.{List, [], _∷_, _++_}
-use Prim.Native.Nat.{ℕ, zero, suc, _+_, _-_}
+use Prim.Native.Nat.{ℕ, _+_, _-_}
 use lib.IntN.{ℤ}
 use lib.Dec.{leb}
 use lib.ListN.{drop, replicate}
-use Rattle.minuska.specs.Basics.{_>>=_, provided}
+use Rattle.minuska.specs.Basics.{_>>=_, provided, present}
+use Rattle.minuska.specs.Computed.Read.{readTerm}
 use Rattle.term.specs.declared.Place.{Place}
 use Rattle.term.specs.declared.Place.the-variants as P
 use Rattle.table.specs.Level.{Level}
@@ -45,8 +46,12 @@ placed (some e) = P.At e
 unfoldable pub partWalk : List ℤ → ℕ → Level → List Bool → Walked
 partWalk ws at kind seen = walk (drop at ws) at (kind ∷ []) seen
 
+-- "keys being whole numbers in strictly rising order": what was walked is read as a term
+abbrev pub inOrder : List ℤ → ℕ → Option ℕ → Option ℕ
+inOrder ws at o = o >>= λ e. provided (present (readTerm (drop at ws))) e
+
 abbrev pub partEnd : List ℤ → ℕ → Level → List Bool → Option ℕ
-partEnd ws at kind seen = within at (partWalk ws at kind seen .end)
+partEnd ws at kind seen = inOrder ws at (within at (partWalk ws at kind seen .end))
 
 abbrev pub partSeen : List ℤ → ℕ → Level → List Bool → List Bool
 partSeen ws at kind seen = partWalk ws at kind seen .seen

@@ -1,9 +1,10 @@
-// Expressions: variables that were flagged, calls, and symbols over ground terms.
+// Expressions: variables that were flagged, calls but no updates, and symbols and dictionaries over ground terms.
 use crate::node::Node;
 use crate::node::Turn;
-use crate::node::classify;
-use term::Place;
+use crate::node::node_at;
+use term::UPDATE;
 use term::VARIABLES;
+use term::ground::Ground;
 use term::ground::Ranges;
 ghost use mathlib.Core.Path.{_≡_};
 ghost use Prim.Native.Nat.{_≤_};
@@ -18,22 +19,28 @@ fn expression_turn(table: &[i64], i: usize, seen: &[bool; VARIABLES], ranges: &R
     requires { ⌜ (i ≤ length (now table)) × (now ranges ≡ groundRanges) ⌝ }
     ensures { λ r. ⌜ TurnIs (now (table .entry)) Expression i (now (seen .entry)) (now (seen .entry)) r ⌝ }
 {
-    if table.len() - i < 2 {
-        return Turn::Bad;
-    }
-    let t = term::word(table, i);
-    let d = term::word(table, i + 1);
-    match classify(ranges, t, d) {
+    match node_at(table, i, ranges) {
         Node::Plain(k) => {
-            let Place::At(e) = term::ground::ground_terms(table, i + 2, k, ranges) else {
+            let Ground::At(e, met) = term::ground::ground_terms(table, i + 2, k, ranges) else {
                 return Turn::Bad;
             };
-            Turn::On(e, 0)
+            Turn::On(e, 0, met)
         }
-        Node::Call(k) => Turn::On(i + 2, k),
+        Node::Literal(k) => {
+            let Ground::At(e, _) = term::ground::ground_terms(table, i + 2, k, ranges) else {
+                return Turn::Bad;
+            };
+            Turn::On(e, 0, true)
+        }
+        Node::Call(k, c) => {
+            if c == UPDATE {
+                return Turn::Bad;
+            }
+            Turn::On(i + 2, k, false)
+        }
         Node::Variable(v) => {
             if seen[v] {
-                Turn::On(i + 2, 0)
+                Turn::On(i + 2, 0, false)
             } else {
                 Turn::Bad
             }
@@ -42,25 +49,27 @@ fn expression_turn(table: &[i64], i: usize, seen: &[bool; VARIABLES], ranges: &R
     }
 }
 
-// The place behind so many expressions that start at a place.
+// The place behind so many expressions that start at a place, and whether a dictionary is among them.
 pub fn expressions_end(
     table: &[i64],
     at: usize,
     count: usize,
     seen: &[bool; VARIABLES],
     ranges: &Ranges,
-) -> Place
+) -> Ground
     requires { ⌜ (at ≤ length (now table)) × (count ≤ maxChildren) × (now ranges ≡ groundRanges) ⌝ }
     ensures { λ r. ⌜ EndIs (now (table .entry)) Expression at count (now (seen .entry)) (now (seen .entry)) r ⌝ }
 {
     let mut i = at;
     let mut k = count;
+    let mut met = false;
     while 0 < k {
-        let Turn::On(e, m) = expression_turn(table, i, seen, ranges) else {
-            return Place::Nowhere;
+        let Turn::On(e, m, f) = expression_turn(table, i, seen, ranges) else {
+            return Ground::Nowhere;
         };
         i = e;
         k = k - 1 + m;
+        met = met | f;
     }
-    Place::At(i)
+    Ground::At(i, met)
 }

@@ -8,6 +8,7 @@ use minuska::Check;
 use minuska::Refusal;
 use minuska::limits::MAX_RULES;
 use minuska::limits::MAX_TABLE_WORDS;
+use term::ground::Ranges;
 ghost use mathlib.Core.Path.{_≡_};
 ghost use Prim.Native.Nat.{_≤_};
 ghost use lib.ListN.{length};
@@ -16,7 +17,7 @@ ghost use Rattle.minuska.specs.Bridge.Place.{indexLength};
 ghost use Rattle.table.specs.Index.{IndexTableContract};
 
 // The check. A rule's numbers are written once it is accepted.
-pub fn fill(table: &[i64], index: &mut [u16], ranges: &[i64; 32]) -> Check
+pub fn fill(table: &[i64], index: &mut [u16], ranges: &Ranges) -> Check
     requires { ⌜ (indexLength ≤ length (now index)) × (now ranges ≡ groundRanges) ⌝ }
     ensures { λ r. ⌜ IndexTableContract (now (table .entry)) (now (index .entry)) (now (index .exit)) r ⌝ }
 {

@@ -1,12 +1,15 @@
 // One rule of a table: where its parts stand, if it is accepted.
 use crate::index::HEADER;
 use crate::number::natural;
+use crate::part::expression_part;
+use crate::part::left_part;
+use crate::part::right_part;
 use crate::side::Sized;
-use crate::walk::expression_part;
-use crate::walk::side_part;
 use minuska::limits::MAX_ACTION;
 use minuska::limits::MAX_CONDITIONS;
 use term::Place;
+use term::VARIABLES;
+use term::ground::Ranges;
 ghost use mathlib.Core.Path.{_≡_};
 ghost use Rattle.term.specs.Datum.{groundRanges};
 ghost use Rattle.table.specs.Walk.{placed};
@@ -23,8 +26,8 @@ fn conditions_end(
     table: &[i64],
     at: usize,
     count: usize,
-    seen: &[bool; 16],
-    ranges: &[i64; 32],
+    seen: &[bool; VARIABLES],
+    ranges: &Ranges,
 ) -> Place
     requires { ⌜ now ranges ≡ groundRanges ⌝ }
     ensures { λ r. ⌜ r ≡ placed (conditionsEnd count (now (table .entry)) (now (seen .entry)) at) ⌝ }
@@ -45,7 +48,7 @@ fn conditions_end(
 }
 
 // The parts of the rule that starts at a place.
-pub fn rule_parts(table: &[i64], at: usize, ranges: &[i64; 32]) -> Parts
+pub fn rule_parts(table: &[i64], at: usize, ranges: &Ranges) -> Parts
     requires { ⌜ now ranges ≡ groundRanges ⌝ }
     ensures { λ r. ⌜ RuleIs (now (table .entry)) at r ⌝ }
 {
@@ -63,12 +66,11 @@ pub fn rule_parts(table: &[i64], at: usize, ranges: &[i64; 32]) -> Parts
     if MAX_CONDITIONS < count {
         return Parts::Nowhere;
     }
-    let mut seen = [false; 16];
-    let Sized::At(right, _, _) = side_part(true, table, at + HEADER, &mut seen, ranges) else {
+    let mut seen = [false; VARIABLES];
+    let Sized::At(right, _, _) = left_part(table, at + HEADER, &mut seen, ranges) else {
         return Parts::Nowhere;
     };
-    let Sized::At(conditions, fixed, leaves) = side_part(false, table, right, &mut seen, ranges)
-    else {
+    let Sized::At(conditions, fixed, leaves) = right_part(table, right, &mut seen, ranges) else {
         return Parts::Nowhere;
     };
     let Place::At(end) = conditions_end(table, conditions, count, &seen, ranges) else {

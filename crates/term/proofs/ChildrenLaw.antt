@@ -9,9 +9,10 @@ use lib.ListN.{length}
 use Rattle.minuska.proofs.Bridge.AppendedLaw.{labels-all}
 use Rattle.minuska.proofs.NodeLaw.{NodeIs, CallNode}
 use Rattle.minuska.specs.Bridge.Place.{Stands}
+use Rattle.minuska.specs.Bridge.Shape.{shapely}
 use Rattle.minuska.specs.Computed.Read.{plainChildren, variableTag, callTag}
 use Rattle.minuska.specs.Term.{Role, aVariable, aCall, plain, role, Forest, nil, node, Term, single, everyLabel}
-use Rattle.minuska.specs.Word.{encode, ok}
+use Rattle.minuska.specs.Word.{encode}
 use Rattle.term.specs.TermAt.{NodeWords}
 use Rattle.term.specs.TermEnd.{anyLabel, childrenOf, termEnd}
 use Rattle.term.specs.declared.Place.the-variants.{At}
@@ -45,5 +46,5 @@ any-label : (f : Forest) → T (everyLabel anyLabel f)
 any-label nil = tt
 any-label (node l cs ss) = labels-all anyLabel l cs ss tt (any-label cs) (any-label ss)
 
-pub term-ends : (ws : List ℤ) (at : ℕ) (t : Term) → T (ok (single t)) → Stands ws at (encode (single t)) → termEnd ws at ≡ At (at + length (encode (single t)))
+pub term-ends : (ws : List ℤ) (at : ℕ) (t : Term) → T (shapely (single t)) → Stands ws at (encode (single t)) → termEnd ws at ≡ At (at + length (encode (single t)))
 term-ends ws at t x s = term-end-is ws at ∙ stands-ends anyLabel ws at t x (any-label (single t)) s

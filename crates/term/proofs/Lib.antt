@@ -5,3 +5,5 @@ pub mod GroundLaw
 pub mod ExtentLaw
 pub mod CheckLaw
 pub mod ChildrenLaw
+pub mod OrderLaw
+pub mod MetLaw

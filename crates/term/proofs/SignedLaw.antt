@@ -1,15 +1,15 @@
 -- Words as the code sees them: stored as bits, compared, and cast to `usize`.
 use mathlib.Core.Path.{_≡_, refl, sym, _∙_, ap, ap₂, subst⁻¹}
-use mathlib.Core.Bool.{Bool, false, true≢false}
+use mathlib.Core.Bool.{Bool, true, false, true≢false}
 use Prim.Native.Nat.{ℕ, _≤_}
 use native.Mathlib.Nat.{lt-of-le-of-lt}
-use lib.Dec.{T, lit<}
+use lib.Dec.{T, leb→le, lit<}
 use lib.IntN.{ℤ, pos, negsuc, natAbs}
-use lib.Signed.{ltZ, nonNeg, natAbs-le}
+use lib.Signed.{ltZ, leZ, nonNeg, natAbs-le}
 use mir.Syntax.{w64}
 use mir.Val.{Fits, SFits, ofZ, toZ}
 use mir.ValLaws.{toZ-ofZ}
-use borrow.Author.Tests.{ltb-false}
+use borrow.Author.Tests.{ltb-false, leb-false, le-ltb, lt-ltb}
 
 -- a word that is not below a bound is a number, and its cast gives that number
 pub record Natural (z : ℤ) (bound : ℕ) : Type 0 where
@@ -42,3 +42,16 @@ same-bits a b f g e = sym (toZ-ofZ w64 a f) ∙ (ap (toZ w64) e ∙ toZ-ofZ w64 
 -- a word with the bits of a number
 pub with-bits : (z : ℤ) (n : ℕ) → SFits w64 z → ofZ w64 z ≡ n → z ≡ toZ w64 n
 with-bits z n f e = sym (toZ-ofZ w64 z f) ∙ ap (toZ w64) e
+
+-- a word that is at most another, or not: which of them is less
+pub at-most : (a b : ℤ) → leZ a b ≡ true → ltZ b a ≡ false
+at-most (pos a) (pos b) e = le-ltb b a (leb→le a b (subst⁻¹ T e tt))
+at-most (pos a) (negsuc b) e = absurd (true≢false (sym e))
+at-most (negsuc a) (pos b) e = refl
+at-most (negsuc a) (negsuc b) e = le-ltb a b (leb→le b a (subst⁻¹ T e tt))
+
+pub more : (a b : ℤ) → leZ a b ≡ false → ltZ b a ≡ true
+more (pos a) (pos b) e = lt-ltb b a (leb-false a b e)
+more (pos a) (negsuc b) e = refl
+more (negsuc a) (pos b) e = absurd (true≢false e)
+more (negsuc a) (negsuc b) e = lt-ltb a b (leb-false b a e)

@@ -12,9 +12,9 @@ use borrow.Author.Tests.{ltb-true, ltb-false, le-leb, lt-leb, ne-eqb}
 use mir.Syntax.{w64}
 use mir.Val.{SFits, toZ, ofZ}
 use mir.Facts.{toZ-ofZ}
-use Rattle.minuska.specs.Term.{truth, Label, error, whole, symbol, Term}
+use Rattle.minuska.specs.Term.{truth, Label, error, whole, symbol, dictionary, Term, asSymbol, asTruth, asWhole}
 use Rattle.minuska.specs.Basics.{_>>=_, present, provided, sameWhole}
-use Rattle.minuska.specs.Function.{asTruth, asWhole, asSymbol, wrongKind, orWrongKind, inWord, wholeTerm, shareRange, shareOf, Function, functions, noFunction}
+use Rattle.minuska.specs.Function.{wrongKind, orWrongKind, inWord, wholeTerm, shareRange, shareOf, Function, functions, noFunction}
 use Rattle.value.specs.Builtin.{unsigned, labelAt, rootOf, leaves, applied}
 use Rattle.value.proofs.Shift.{eq-bits, word-is, word-not}
 
@@ -23,10 +23,11 @@ unsigned-is : (z : ℤ) → unsigned z ≡ ofZ w64 z
 unsigned-is (pos n) = refl
 unsigned-is (negsuc n) = refl
 
--- what no one looks for in an error and in a symbol
-other : {A : Type 0} (f : Label → Option A) (n : ℕ) → f error ≡ none → f (symbol n) ≡ none → (b : Bool) → f (cond b (symbol n) error) ≡ none
-other f n e s true = s
-other f n e s false = e
+-- what no one looks for in an error, in a symbol and in a dictionary
+other : {A : Type 0} (f : Label → Option A) (n : ℕ) → f error ≡ none → f (symbol n) ≡ none → f (dictionary n) ≡ none → (b c : Bool) → f (cond b (symbol n) (cond c (dictionary n) error)) ≡ none
+other f n e s d true c = s
+other f n e s d false true = d
+other f n e s d false false = e
 
 pub record Kind (A : Type 0) : Type 0 where
   pub tag : ℤ
@@ -39,7 +40,7 @@ unfolding labelAt
 truth-seen (pos zero) d = refl
 truth-seen (pos (suc zero)) d = rw (unsigned-is d)
 truth-seen (pos (suc (suc zero))) d = refl
-truth-seen (pos (suc (suc (suc n)))) d = rw (ne-eqb (suc (suc (suc n))) 1 (λ h. omega arith)) (other asTruth (unsigned d) refl refl (leb 5 n))
+truth-seen (pos (suc (suc (suc n)))) d = rw (ne-eqb (suc (suc (suc n))) 1 (λ h. omega arith)) (other asTruth (unsigned d) refl refl refl (leb 5 n) (eqb n 2))
 truth-seen (negsuc n) d = refl
 
 pub whole-seen : (t d : ℤ) → asWhole (labelAt t d) ≡ provided (sameWhole t (pos 2)) d
@@ -47,7 +48,7 @@ unfolding labelAt
 whole-seen (pos zero) d = refl
 whole-seen (pos (suc zero)) d = refl
 whole-seen (pos (suc (suc zero))) d = refl
-whole-seen (pos (suc (suc (suc n)))) d = rw (ne-eqb (suc (suc (suc n))) 2 (λ h. omega arith)) (other asWhole (unsigned d) refl refl (leb 5 n))
+whole-seen (pos (suc (suc (suc n)))) d = rw (ne-eqb (suc (suc (suc n))) 2 (λ h. omega arith)) (other asWhole (unsigned d) refl refl refl (leb 5 n) (eqb n 2))
 whole-seen (negsuc n) d = refl
 
 abbrev pub truths : Kind Bool
@@ -129,6 +130,11 @@ pub no-function : (n : ℕ) (a b c : Label) → length functions ≤ n → error
 unfolding applied
 no-function n a b c h = ap (λ (f : Function). f .meaning (leaves a b c) .label) (sym (List·getD-eq-default functions noFunction h))
 
+-- ---- the empty dictionary
+pub empty-value : (a b c : Label) → dictionary 0 ≡ applied 15 a b c
+unfolding applied
+empty-value a b c = refl
+
 -- ---- symbols
 pub is-symbol : (t d : ℤ) → ltZ t (pos 8) ≡ false → labelAt t d ≡ symbol (ofZ w64 d)
 unfolding labelAt
@@ -143,7 +149,11 @@ unfolding labelAt
 no-symbol (pos zero) d h = refl
 no-symbol (pos (suc zero)) d h = refl
 no-symbol (pos (suc (suc zero))) d h = refl
-no-symbol (pos (suc (suc (suc n)))) d h = rw (lt-leb 5 n (omega (arith, ltb-true (suc (suc (suc n))) 8 h)))
+no-symbol (pos (suc (suc (suc n)))) d h = rw (lt-leb 5 n (omega (arith, ltb-true (suc (suc (suc n))) 8 h))) (pick (eqb n 2))
+  where
+    pick : (b : Bool) → asSymbol (cond b (dictionary (unsigned d)) error) ≡ none
+    pick true = refl
+    pick false = refl
 no-symbol (negsuc n) d h = refl
 
 -- ---- the ranges of z.share

@@ -1,22 +1,22 @@
 -- What stands where an expression stands, by its tag, and what it is has.
 use mathlib.Core.Path.{_≡_, refl, sym, _∙_, ap, subst, subst⁻¹}
-use mathlib.Core.Bool.{true, false, _&&_}
+use mathlib.Core.Bool.{true, false, _&&_, cond}
 use mathlib.Core.Option.{Option, some, Option·some-injective}
 use mathlib.Core.List.{List, [], _∷_, _++_, append-nil}
-use Prim.Native.Nat.{ℕ, suc, _+_, _-_, _≤_, _<_}
+use Prim.Native.Nat.{ℕ, suc, _+_, _-_, _*_, _≤_, _<_}
 use native.Mathlib.Omega.{arith}
-use lib.Dec.{T, ltb, ltb→lt, lt→ltb}
-use lib.IntN.{ℤ, pos}
+use lib.Dec.{T, eqb, ltb, ltb→lt, lt→ltb}
+use lib.IntN.{ℤ, pos, natAbs}
 use lib.Signed.{ltZ}
-use borrow.Author.Tests.{ltb-true}
+use borrow.Author.Tests.{ltb-true, ne-eqb}
 use lib.ListN.{length, getD, length-append}
 use Rattle.minuska.specs.Basics.{_>>=_}
 use Rattle.minuska.specs.Term.{Label, Forest, nil, node, Term, cons, single, termCount, Role, aVariable, aCall, plain, role, groundAt, isGround}
 use Rattle.minuska.specs.Word.{variables, tagWord, datumWord, okHead, encode}
 use Rattle.minuska.specs.Function.{functions, functionAt, interpret}
-use Rattle.minuska.specs.Rule.{expressionAt, isExpression}
+use Rattle.minuska.specs.Rule.{updating, inExpression, innerAt, isExpression}
 use Rattle.minuska.specs.Satisfaction.{Valuation}
-use Rattle.minuska.specs.Computed.Read.{variableTag, callTag, symbolTag, plainChildren}
+use Rattle.minuska.specs.Computed.Read.{variableTag, callTag, symbolTag, dictionaryTag, plainChildren}
 use Rattle.minuska.specs.Computed.Value.{valueAt, values, value}
 use Rattle.minuska.specs.Bridge.Place.{Stands, BoundAt}
 use Rattle.minuska.proofs.Tests.{came, and-left, and-right, and-both}
@@ -55,6 +55,7 @@ module _ (table config : List ℤ) (starts ends : List ℕ) (at : ℕ) (ρ : Val
     pub code : ℕ
     pub role-is : role (e .label) ≡ aCall code
     pub small : code < length functions
+    pub no-update : code ≡ updating → ⊥
     pub datum : getD table (at + 1) (pos 0) ≡ pos code
     pub terms : Forest
     pub have : HaveValues table config starts ends (at + 2) ρ (e .children) terms
@@ -87,8 +88,8 @@ module _ (table config : List ℤ) (starts ends : List ℕ) (at : ℕ) (ρ : Val
     worth : (r : Role) → role l ≡ r → valueAt ρ r l (values ρ cs) ≡ some t
     worth r q = subst (λ (r : Role). valueAt ρ r l (values ρ cs) ≡ some t) q (w .is)
 
-    shaped : (r : Role) → role l ≡ r → T (expressionAt r (isExpression cs) (isGround cs))
-    shaped r q = subst (λ (r : Role). T (expressionAt r (isExpression cs) (isGround cs))) q (and-left (expressionAt (role l) (isExpression cs) (isGround cs)) true (w .placed .expressions))
+    shaped : (r : Role) → role l ≡ r → T (innerAt r (isExpression cs) (isGround cs))
+    shaped r q = subst (λ (r : Role). T (innerAt r (isExpression cs) (isGround cs))) q (and-left (innerAt (role l) (isExpression cs) (isGround cs)) true (w .placed .expressions))
 
     pub is-variable : getD table at (pos 0) ≡ pos variableTag → VariableHere e t
     is-variable h =
@@ -111,12 +112,13 @@ module _ (table config : List ℤ) (starts ends : List ℕ) (at : ℕ) (ρ : Val
           code = c;
           role-is = q;
           small = n .small;
+          no-update = λ e. subst (λ (i : ℕ). T (inExpression i)) e (and-left (inExpression c) (isExpression cs) (shaped (aCall c) q));
           datum = words .second ∙ n .datum;
           terms = k .0;
           have = record {
             placed = record {
               good = okay l cs nil (p .good) .children;
-              expressions = shaped (aCall c) q;
+              expressions = and-right (inExpression c) (isExpression cs) (shaped (aCall c) q);
               stands = stands-second two (encode cs) (subst (Stands table at) (encode-node l cs) (p .stands));
               binds = p .binds;
             };
@@ -146,8 +148,8 @@ module _ (table config : List ℤ) (starts ends : List ℕ) (at : ℕ) (ρ : Val
         low : (n : ℕ) → getD table at (pos 0) ≡ pos n → variableTag ≤ n → ⊥
         low n p i = let k : n < variableTag = ltb-true n variableTag (subst (λ (z : ℤ). ltZ z (pos variableTag) ≡ true) p h) in omega arith
 
-        small : (n : ℕ) → getD table at (pos 0) ≡ pos n → n - symbolTag ≡ 0
-        small n p = let k : n < variableTag = ltb-true n variableTag (subst (λ (z : ℤ). ltZ z (pos variableTag) ≡ true) p h) in omega arith
+        small : (n : ℕ) → getD table at (pos 0) ≡ pos n → cond (eqb n dictionaryTag) (2 * natAbs (datumWord l)) (n - symbolTag) ≡ 0
+        small n p = let k : n < variableTag = ltb-true n variableTag (subst (λ (z : ℤ). ltZ z (pos variableTag) ≡ true) p h) in rw (ne-eqb n dictionaryTag (λ q. omega arith)) (omega arith)
 
         pick : (r : Role) → NodeIs r (tagWord l (termCount cs)) (datumWord l) (termCount cs) → termCount cs ≡ 0
         pick (aVariable v) n = n .childless
@@ -172,7 +174,7 @@ module _ (table config : List ℤ) (starts ends : List ℕ) (at : ℕ) (ρ : Val
       let p = w .placed in
       let e : Term = record { label = l; children = cs } in
       let o = okay l cs ss (p .good) in
-      let a = expressionAt (role l) (isExpression cs) (isGround cs) in
+      let a = innerAt (role l) (isExpression cs) (isGround cs) in
       let s : Stands table at (encode (single e) ++ encode ss) = subst (Stands table at) (encode-first l cs ss) (p .stands) in
       let k = came (value ρ e) (λ t. values ρ ss >>= λ f. some (cons t f)) xs (w .are) in
       let r = came (values ρ ss) (λ f. some (cons (k .0) f)) xs (k .2) in

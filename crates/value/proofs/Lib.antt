@@ -10,5 +10,10 @@ pub mod ArityLaw
 pub mod ExpressionLaw
 pub mod GivenLaw
 pub mod MeantLaw
+pub mod FindLaw
+pub mod LookupLaw
+pub mod SlotLaw
+pub mod UpdateLaw
+pub mod WritingLaw
 pub mod ConditionLaw
 pub mod ShortLaw

@@ -9,14 +9,15 @@ use lib.IntN.{ℤ, pos}
 use lib.Signed.{ltZ}
 use lib.ListN.{length, take, drop, getD, length-append}
 use borrow.Author.Tests.{lt-ltb, le-ltb}
-use Rattle.minuska.specs.Term.{Label, Forest, nil, node, Term, single, termCount, Role, aVariable, aCall, plain, role, isGround}
+use Rattle.minuska.specs.Term.{Label, Forest, nil, node, Term, cons, single, termCount, Role, aVariable, aCall, plain, role, isGround}
 use Rattle.minuska.specs.Word.{ok, encode}
 use Rattle.minuska.specs.Function.{argument, interpret}
 use Rattle.minuska.specs.Satisfaction.{Valuation}
 use Rattle.minuska.specs.Bridge.Place.{part, Stands}
 use Rattle.minuska.proofs.ValueLaw.{value-iff-evaluates}
-use Rattle.value.specs.Builtin.{rootOf, applied}
-use Rattle.value.specs.Root.{given}
+use Rattle.minuska.specs.Bridge.Walk.{looking}
+use Rattle.value.specs.Builtin.{rootOf, applied, ByRoots}
+use Rattle.value.specs.Root.{given, PartOrError}
 use Rattle.value.specs.Value.{valueWords, Within, IsValue}
 use Rattle.value.specs.Evaluate.{HasValue, HaveValues, Where, Meant, EvaluateContract, FirstMeant, firstOf, firstTerm, restOf}
 use Rattle.value.specs.declared.Value.{Value}
@@ -67,14 +68,20 @@ three-long es h =
     let d = none-left (restOf (restOf (restOf es))) (rest-few (restOf (restOf es)) 0 (rest-few (restOf es) 1 (rest-few es 2 h))) in
     omega arith
 
+-- a lookup looks at its first two arguments
+two-looked : (xs : Forest) → interpret looking xs ≡ interpret looking (cons (firstTerm xs) (single (firstTerm (restOf xs))))
+two-looked nil = refl
+two-looked (node l cs nil) = refl
+two-looked (node l cs (node m ms ss)) = refl
+
 module _ (table config : List ℤ) where
-  table-value : (t : Term) (from to : ℕ) → T (ok (single t)) → T (isGround (single t)) → Stands table from (encode (single t)) → to ≡ from + length (encode (single t)) → IsValue table config (Table from to) t
+  pub table-value : (t : Term) (from to : ℕ) → T (ok (single t)) → T (isGround (single t)) → Stands table from (encode (single t)) → to ≡ from + length (encode (single t)) → IsValue table config (Table from to) t
   unfolding valueWords Within
   table-value t from to o g s e =
       let w = s .within in
       record { good = o; ground = g; words = part-of table from to (encode (single t)) s e; within = (omega arith, omega arith) }
 
-  configuration-value : (t : Term) (from to : ℕ) → T (ok (single t)) → T (isGround (single t)) → Stands config from (encode (single t)) → to ≡ from + length (encode (single t)) → IsValue table config (Configuration from to) t
+  pub configuration-value : (t : Term) (from to : ℕ) → T (ok (single t)) → T (isGround (single t)) → Stands config from (encode (single t)) → to ≡ from + length (encode (single t)) → IsValue table config (Configuration from to) t
   unfolding valueWords Within
   configuration-value t from to o g s e =
       let w = s .within in
@@ -106,11 +113,22 @@ module _ (table config : List ℤ) where
     literal-meant e t w h = let g = is-literal table config starts ends at ρ e t w h in ground-meant e t w (g .0) (at + 2) (ap (λ (n : ℕ). at + n) (sym (g .1)))
 
     -- ---- a call: its value is what its function gives
-    pub call-meant : (e t : Term) (k : CallHere table config starts ends at ρ e t) (r : Evaluated) → r .value ≡ given (rootOf (applied (k .code) (argument 0 (k .terms)) (argument 1 (k .terms)) (argument 2 (k .terms)))) → r .next ≡ at + length (encode (single e)) → Meant table config starts ends at e t r
-    call-meant e t k r q n =
+    pub call-meant : (e t : Term) (k : CallHere table config starts ends at ρ e t) → (k .code ≡ looking → ⊥) → (r : Evaluated) → r .value ≡ given (rootOf (applied (k .code) (argument 0 (k .terms)) (argument 1 (k .terms)) (argument 2 (k .terms)))) → r .next ≡ at + length (encode (single e)) → Meant table config starts ends at e t r
+    call-meant e t k f r q n =
+        let b : ByRoots (k .code) = (f, k .no-update) in
         record {
-          is = subst (IsValue table config (r .value)) (k .is) (subst⁻¹ (λ (v : Value). IsValue table config v (interpret (k .code) (k .terms))) q (given-is table config (k .code) (k .terms)));
-          place = placed e t r (aCall (k .code)) (k .role-is) (q ∙ ap (λ (l : Label). given (rootOf l)) (given-root table config (k .code) (k .terms) ∙ ap (λ (y : Term). y .label) (k .is)));
+          is = subst (IsValue table config (r .value)) (k .is) (subst⁻¹ (λ (v : Value). IsValue table config v (interpret (k .code) (k .terms))) q (given-is table config (k .code) (k .terms) b));
+          place = placed e t r (aCall (k .code)) (k .role-is)
+              (record { computed = λ g. q ∙ ap (λ (l : Label). given (rootOf l)) (given-root table config (k .code) (k .terms) b ∙ ap (λ (y : Term). y .label) (k .is)); looked = λ g. absurd (f g) });
+          next = n;
+        }
+
+    -- a lookup: what was found with its first two arguments
+    pub lookup-meant : (e t : Term) (k : CallHere table config starts ends at ρ e t) → k .code ≡ looking → (r : Evaluated) → IsValue table config (r .value) (interpret looking (cons (firstTerm (k .terms)) (single (firstTerm (restOf (k .terms)))))) → PartOrError (r .value) → r .next ≡ at + length (encode (single e)) → Meant table config starts ends at e t r
+    lookup-meant e t k c r i p n =
+        record {
+          is = subst (IsValue table config (r .value)) (sym (two-looked (k .terms)) ∙ (ap (λ (m : ℕ). interpret m (k .terms)) (sym c) ∙ k .is)) i;
+          place = placed e t r (aCall (k .code)) (k .role-is) (record { computed = λ g. absurd (g c); looked = λ g. p });
           next = n;
         }
 

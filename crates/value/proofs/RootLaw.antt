@@ -4,17 +4,17 @@ use mathlib.Core.Bool.{Bool, true, false, _&&_, cond}
 use mathlib.Core.List.{List, [], _∷_, _++_}
 use Prim.Native.Nat.{ℕ, suc, _+_, _-_, _<_}
 use native.Mathlib.Omega.{arith}
-use lib.Dec.{T, leb}
+use lib.Dec.{T, eqb, leb}
 use lib.IntN.{ℤ, pos}
 use lib.ListN.{getD, length, take, drop}
 use borrow.Author.Tests.{le-leb}
-use Rattle.minuska.specs.Term.{Label, error, truth, whole, variable, call, symbol, nil, Term, single, termCount, role, groundAt, isGround}
+use Rattle.minuska.specs.Term.{Label, error, truth, whole, variable, call, symbol, dictionary, nil, Term, single, termCount, role, groundAt, isGround}
 use Rattle.minuska.specs.Word.{tagWord, datumWord, ok, encode}
 use Rattle.minuska.specs.Computed.Read.{childrenAt}
 use Rattle.minuska.specs.Bridge.Place.{part, Stands}
 use Rattle.minuska.proofs.Tests.{and-left}
 use Rattle.minuska.proofs.NodeLaw.{children-right}
-use Rattle.minuska.proofs.WordLaw.{okay}
+use Rattle.minuska.proofs.WordLaw.{okay, head-okay}
 use Rattle.minuska.proofs.Bridge.PlaceLaw.{two-words}
 use Rattle.value.specs.Builtin.{labelAt}
 use Rattle.value.specs.Root.{Head, rootAt}
@@ -32,7 +32,8 @@ label-of (call c) k g = absurd g
 label-of (symbol s) k g =
     let n : 8 + k ≡ suc (suc (suc (5 + k))) = omega arith in
     let e : leb 5 (5 + k) ≡ true = le-leb 5 (5 + k) (omega arith) in
-    ap (λ (m : ℕ). labelAt (pos m) (pos s)) n ∙ ap (λ (b : Bool). cond b (symbol s) error) e
+    ap (λ (m : ℕ). labelAt (pos m) (pos s)) n ∙ ap (λ (b : Bool). cond b (symbol s) (cond (eqb (5 + k) 2) (dictionary s) error)) e
+label-of (dictionary n) k g = refl
 
 pub label-is : (r : Root) (l : Label) (k : ℕ) → Head r l k → labelAt (r .tag) (r .datum) ≡ l
 label-is r l k h = ap₂ labelAt (h .tag) (h .datum) ∙ label-of l k (h .ground)
@@ -46,7 +47,7 @@ pub own-head : (t : Term) (r : Root) → T (ok (single t)) → T (isGround (sing
 own-head t r o g p q =
     let a = groundAt (role (t .label)) in
     let b = isGround (t .children) in
-    record { good = okay (t .label) (t .children) nil o .allowed; ground = and-left a b (and-left (a && b) true g); tag = p; datum = q }
+    record { good = head-okay (t .label) (t .children) (okay (t .label) (t .children) nil o .allowed); ground = and-left a b (and-left (a && b) true g); tag = p; datum = q }
 
 -- the root of the term whose words are a part
 pub record RootThere (ws : List ℤ) (at : ℕ) (t : Term) : Type 0 where

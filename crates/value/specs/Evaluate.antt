@@ -57,7 +57,7 @@ module _ (table config : List ℤ) (starts ends : List ℕ) (at : ℕ) where
   -- where the value is: a variable's part of the configuration, a literal's part of the table; a call's as its function gives it
   abbrev pub Where : Role → Term → Evaluated → Type 0
   Where (aVariable v) t r = r .value ≡ Configuration (getD starts v 0) (getD ends v 0)
-  Where (aCall c) t r = Given t (r .value)
+  Where (aCall c) t r = Given c t (r .value)
   Where plain t r = r .value ≡ Table at (r .next)
 
   pub record Meant (e t : Term) (r : Evaluated) : Type 0 where

@@ -1,5 +1,5 @@
--- A call of two short arguments: variables, or literals without children. A variable's tag is 3, and those of literals without children are below it, but for a
--- symbol's.
+-- A call of two short arguments that is no lookup: variables, or literals without children. A variable's tag is 3, and those of literals without children are below
+-- it, but for a symbol's and an empty dictionary's.
 use mathlib.Core.Path.{_≡_}
 use mathlib.Core.Bool.{true}
 use mathlib.Core.List.{List}
@@ -10,6 +10,7 @@ use lib.Signed.{ltZ}
 use Rattle.minuska.specs.Term.{Term, termCount}
 use Rattle.minuska.specs.Satisfaction.{Valuation}
 use Rattle.minuska.specs.Function.{functionAt}
+use Rattle.minuska.specs.Bridge.Walk.{looking}
 use Rattle.value.specs.Root.{Head, given}
 use Rattle.value.specs.Evaluate.{HasValue, ExpressionIn, EvaluateContract, CallIn}
 use Rattle.value.specs.declared.builtin.Root.{Root}
@@ -22,6 +23,7 @@ module _ (table : List ℤ) (at : ℕ) where
     pub call : CallIn table config starts ends at
 
   pub record Short : Type 0 where
+    pub no-lookup : natAbs (getD table (at + 1) (pos 0)) ≡ looking → ⊥
     pub two : functionAt (natAbs (getD table (at + 1) (pos 0))) .arity ≡ 2
     pub first : ltZ (getD table (at + 2) (pos 0)) (pos 4) ≡ true
     pub second : ltZ (getD table (at + 4) (pos 0)) (pos 4) ≡ true

@@ -1,4 +1,5 @@
 // The built-in functions, on the roots of their arguments: two words each, tag and datum.
+use term::DICTIONARY;
 use term::SYMBOL;
 use term::TRUTH;
 use term::WHOLE;
@@ -8,9 +9,9 @@ ghost use Prim.Native.Nat.{_≤_};
 ghost use lib.Dec.{leb};
 ghost use lib.IntN.{natAbs, _+ℤ_, _-ℤ_};
 ghost use Rattle.minuska.specs.Basics.{sameWhole};
-ghost use Rattle.minuska.specs.Term.{Label, error, truth, whole};
+ghost use Rattle.minuska.specs.Term.{Label, error, truth, whole, dictionary};
 ghost use Rattle.minuska.specs.Function.{wrongKind, truthTerm, inWord, wholeTerm, shareRange, shareOf};
-ghost use Rattle.value.specs.Builtin.{labelAt, rootOf, applied};
+ghost use Rattle.value.specs.Builtin.{labelAt, rootOf, applied, ByRoots};
 
 // The root of a term: the two words of its first node. The gap lies between them: they are written one by one, and would else be read back as one, for which a
 // machine has to wait.
@@ -20,15 +21,17 @@ pub struct Root {
     pub datum: i64,
 }
 
-// The value of the function of a code; a code that names none, and an argument of another kind, give error. The codes go by groups, each a range.
+// The value of the function of a code; a code that names none, and an argument of another kind, give error. The codes go by groups, each a range. A lookup's value
+// and an update's are not given by the roots of their arguments: see `lookup.rt`.
 pub fn apply(code: usize, a: i64, x: i64, b: i64, y: i64, c: i64, z: i64) -> Root
+    requires { ⌜ ByRoots code ⌝ }
     ensures { λ r. ⌜ r ≡ rootOf (applied code (labelAt a x) (labelAt b y) (labelAt c z)) ⌝ }
 {
     match code {
         0..=7 => on_truths(code, a, x, b, y),
         8..=9 => arithmetic(code, a, x, b, y),
         10..=12 => comparison(code, a, x, b, y),
-        13..=14 => on_others(code, a, x, b, y, c, z),
+        13..=15 => on_others(code, a, x, b, y, c, z),
         _ => an_error(),
     }
 }
@@ -92,18 +95,21 @@ fn comparison(code: usize, a: i64, x: i64, b: i64, y: i64) -> Root
     truth_of_two(WHOLE, a, b, x < y)
 }
 
-// term.same_symbol, z.share.
+// term.same_symbol, z.share, map.empty.
 fn on_others(code: usize, a: i64, x: i64, b: i64, y: i64, c: i64, z: i64) -> Root
-    requires { ⌜ (13 ≤ code) × (code ≤ 14) ⌝ }
+    requires { ⌜ (13 ≤ code) × (code ≤ 15) ⌝ }
     ensures { λ r. ⌜ r ≡ rootOf (applied code (labelAt a x) (labelAt b y) (labelAt c z)) ⌝ }
 {
     if code == 13 {
         return same_symbol(a, x, b, y);
     }
-    share(a, x, b, y, c, z)
+    if code == 14 {
+        return share(a, x, b, y, c, z);
+    }
+    an_empty()
 }
 
-// The nodes that functions give: error, a truth value, a whole number.
+// The nodes that functions give: error, a truth value, a whole number, the empty dictionary.
 pub fn an_error() -> Root
     ensures { λ r. ⌜ r ≡ rootOf error ⌝ }
 {
@@ -138,6 +144,16 @@ pub fn a_whole(z: i64) -> Root
         tag: WHOLE,
         gap: 0,
         datum: z,
+    }
+}
+
+pub fn an_empty() -> Root
+    ensures { λ r. ⌜ r ≡ rootOf (dictionary 0) ⌝ }
+{
+    Root {
+        tag: DICTIONARY,
+        gap: 0,
+        datum: 0,
     }
 }
 

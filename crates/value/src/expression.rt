@@ -5,11 +5,13 @@ use crate::builtin::apply;
 use crate::leaf::given;
 use crate::leaf::leaf;
 use crate::leaf::root;
+use crate::lookup::lookup;
 use term::CALL;
+use term::LOOKUP;
 use term::Places;
 ghost use Rattle.value.specs.Evaluate.{CallIn, EvaluateContract, ArgumentsIn, ArgumentsContract};
 
-// The value of a call, from the roots of its arguments: three at most, one behind the other.
+// The value of a call, from its arguments, three at most, one behind the other: of a lookup from their values, of any other from their roots.
 pub fn expression(
     table: &[i64],
     configuration: &[i64],
@@ -28,6 +30,12 @@ pub fn expression(
     let u = first.value;
     let v = second.value;
     let w = third.value;
+    if code == LOOKUP {
+        return Evaluated {
+            value: lookup(table, configuration, u, v),
+            next: third.next,
+        };
+    }
     let a = root(table, configuration, u);
     let b = root(table, configuration, v);
     let c = root(table, configuration, w);

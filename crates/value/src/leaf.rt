@@ -64,7 +64,7 @@ pub fn root_at(s: &[i64], at: usize) -> Root
     }
 }
 
-// What a built-in function gives, as a value: one node, computed.
+// What a built-in function gives, as a value: one node, computed. A lookup gives another.
 pub fn given(r: Root) -> Value
     ensures { λ v. ⌜ v ≡ R.given r ⌝ }
 {

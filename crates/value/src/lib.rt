@@ -11,9 +11,11 @@ ghost use Rattle.value.specs.Value.{valueWords, partWords, Within, sizeO
 ghost use Rattle.value.specs.Evaluate.{ExpressionIn, EvaluateContract, ConditionIn, ConditionContract};
 ghost use Rattle.value.specs.Copy.{PutContract};
 
-pub mod builtin; // the fifteen functions
+pub mod builtin; // the functions whose value is one node
 mod expression; // a call's value and its argument list
 pub mod leaf; // values that need no recursion
+pub mod lookup; // a value in a dictionary
+pub mod update; // a dictionary with an entry put in
 pub mod short; // calls whose value needs no recursion
 mod same; // whether two values are the same
 

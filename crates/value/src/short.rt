@@ -1,8 +1,10 @@
-// A call of two arguments that are variables or literals without children, as most calls are: its value needs no recursion.
+// A call of two arguments that are variables or literals without children, as most calls are: its value needs no recursion. A lookup is none: its value is not known
+// from the roots of its arguments.
 use crate::builtin::Root;
 use crate::builtin::apply;
 use crate::leaf::root_at;
 use term::CALL;
+use term::LOOKUP;
 use term::Places;
 use term::VARIABLE;
 ghost use mathlib.Core.Path.{_≡_};
@@ -18,6 +20,9 @@ pub fn is_short_call(table: &[i64], at: usize) -> bool
     let code = term::word(table, at + 1) as usize;
     let count = term::arity(code);
     if count != 2 {
+        return false;
+    }
+    if code == LOOKUP {
         return false;
     }
     if term::word(table, at + 2) < CALL {

@@ -2,7 +2,8 @@
 
 use crate::call::{Buffer, Call};
 use crate::words::{
-    ARITIES, RuleWords, Words, bush, call, chain, int, spin_rules, symbol, table, truth, variable,
+    ARITIES, EMPTY, LOOKUP, RuleWords, UPDATE, Words, bush, call, chain, dictionary, error, int,
+    nest, spin_rules, symbol, table, truth, variable,
 };
 
 /// What the buffers held before.
@@ -21,15 +22,23 @@ pub fn calls() -> Vec<Call> {
         sizes_of_terms(),
         sizes_of_tables(),
         forms(),
+        dictionaries_of_rules(),
+        places_of_updates(),
         parts_of(&table(&spin_rules())),
         changes_of(&table(&spin_rules())),
+        parts_of(&table(&meter_rules())),
+        changes_of(&table(&meter_rules())),
     ];
     let sample = symbol(2, &[truth(true), symbol(1, &[int(5)])]);
+    let meters = symbol(2, &[two_meters(), int(5)]);
     let configurations = [
         nodes_of_configurations(),
         sizes_of_configurations(),
+        dictionaries(),
         parts_of(&sample),
         changes_of(&sample),
+        parts_of(&meters),
+        changes_of(&meters),
     ];
     let mut calls = Vec::new();
     for table in tables.concat() {
@@ -39,6 +48,8 @@ pub fn calls() -> Vec<Call> {
         calls.extend(calls_with_configuration(configuration));
     }
     calls.extend(outs_of_steps());
+    calls.extend(steps_with_meters());
+    calls.extend(lookups_in_both());
     calls.extend(runs());
     calls.extend(replays());
     calls.extend(refusals_together());
@@ -182,7 +193,7 @@ fn edge_nodes(child: &Words) -> Vec<Words> {
         8 | 1 << 32,
         256 + 2,
     ];
-    const DATA: [i64; 17] = [
+    const DATA: [i64; 22] = [
         -1,
         0,
         1,
@@ -192,6 +203,11 @@ fn edge_nodes(child: &Words) -> Vec<Words> {
         14,
         15,
         16,
+        17,
+        18,
+        63,
+        64,
+        65,
         4_095,
         4_096,
         65_536,
@@ -205,14 +221,309 @@ fn edge_nodes(child: &Words) -> Vec<Words> {
     for tag in TAGS {
         for datum in DATA {
             let children = match tag {
-                4 => ARITIES.get(datum as usize).copied().unwrap_or(0),
-                8..=15 => (tag - 8) as usize,
-                _ => 0,
+                4 => child.repeat(ARITIES.get(datum as usize).copied().unwrap_or(0)),
+                5 if (0..=65).contains(&datum) => map_of(datum, child)[2..].to_vec(),
+                8..=15 => child.repeat((tag - 8) as usize),
+                _ => Words::new(),
             };
-            nodes.push([&[tag, datum], child.repeat(children).as_slice()].concat());
+            nodes.push([&[tag, datum], children.as_slice()].concat());
         }
     }
     nodes
+}
+
+/// A dictionary of so many entries with the same value, its keys 0, 2, 4 and so on.
+fn map_of(count: i64, value: &Words) -> Words {
+    let entries: Vec<(i64, Words)> = (0..count).map(|key| (2 * key, value.clone())).collect();
+    dictionary(&entries)
+}
+
+/// A dictionary of so many nodes: values of one node, and the first has the rest.
+fn map_of_nodes(nodes: usize) -> Words {
+    let first = chain(nodes - 4, 2);
+    dictionary(&[(-1, first), (1, int(1))])
+}
+
+/// Dictionaries with each count, and each fault: in the count, in a key, in what is below.
+fn dictionaries() -> Vec<Words> {
+    let one = || int(1);
+    let (min, max) = (i64::MIN, i64::MAX);
+    let mut all: Vec<Words> = [0, 1, 2, 63, 64, 65]
+        .iter()
+        .map(|&count| map_of(count, &one()))
+        .collect();
+    for count in [0, 1, 2, 63, 64] {
+        for said in [-1, 1, 1 << 32, i64::MIN] {
+            let mut words = map_of(count, &one());
+            words[1] = count.wrapping_add(said);
+            all.push(words);
+        }
+    }
+    let keys: [&[i64]; 14] = [
+        &[min, max],
+        &[min, min],
+        &[max, max],
+        &[max, min],
+        &[min, -1, 0, 1, max],
+        &[0, -1],
+        &[-1, 0],
+        &[-2, -1],
+        &[-1, -2],
+        &[0, 0],
+        &[1, 2, 2],
+        &[1, 3, 2],
+        &[2, 1, 3],
+        &[0, 1 << 32],
+    ];
+    for keys in keys {
+        let entries: Vec<(i64, Words)> = keys.iter().map(|&key| (key, one())).collect();
+        all.push(dictionary(&entries));
+    }
+    let others = [
+        one(),
+        error(),
+        truth(true),
+        variable(0),
+        call(0, &[]),
+        call(EMPTY, &[]),
+        call(LOOKUP, &[dictionary(&[]), one()]),
+        call(UPDATE, &[dictionary(&[]), one(), one()]),
+        dictionary(&[]),
+        dictionary(&[(1, one())]),
+        dictionary(&[(1, variable(0))]),
+        dictionary(&[(1, one()), (1, one())]),
+        symbol(0, &[]),
+        symbol(1, &[one()]),
+        symbol(1, &[variable(0)]),
+        symbol(1, &[call(EMPTY, &[])]),
+    ];
+    for other in others {
+        // As a key, first and last; as a value, first and last.
+        all.push([&[5, 1], &other[..], &[2, 1]].concat());
+        all.push([&[5, 2, 2, 0, 2, 1], &other[..], &[2, 1]].concat());
+        all.push(dictionary(&[(0, other.clone()), (1, one())]));
+        all.push(dictionary(&[(0, one()), (1, other)]));
+    }
+    // Each of these inside another one.
+    let inside: Vec<Words> = all
+        .iter()
+        .map(|words| dictionary(&[(0, words.clone()), (1, one())]))
+        .collect();
+    all.extend(inside);
+    all
+}
+
+/// Each such dictionary as a left and in one, as a right and in one, as an argument, and on both
+/// sides of a condition.
+fn dictionaries_of_rules() -> Vec<Words> {
+    let x = || variable(0);
+    let mut tables = Vec::new();
+    for words in dictionaries() {
+        let mut rules = vec![
+            RuleWords::new(0, words.clone(), int(1)),
+            RuleWords::new(0, symbol(1, &[x(), words.clone()]), x()),
+            RuleWords::new(0, symbol(1, &[x()]), symbol(1, &[words.clone(), x()])),
+            any_rule().when(words.clone(), x()),
+            any_rule().when(x(), words.clone()),
+        ];
+        rules.extend(
+            [
+                words.clone(),
+                call(LOOKUP, &[words.clone(), x()]),
+                call(LOOKUP, &[words.clone(), int(0)]),
+                call(UPDATE, &[words.clone(), int(0), x()]),
+                call(UPDATE, &[x(), int(0), words]),
+            ]
+            .map(|right| RuleWords::new(0, x(), right)),
+        );
+        tables.extend(rules.into_iter().map(|rule| table(&[rule])));
+    }
+    tables
+}
+
+/// Updates and lookups in every place of a rule.
+fn places_of_updates() -> Vec<Words> {
+    let x = || variable(0);
+    let f = |child| symbol(1, &[child]);
+    let update = || call(UPDATE, &[x(), int(1), int(2)]);
+    let lookup = || call(LOOKUP, &[x(), int(1)]);
+    let mut terms = vec![
+        call(EMPTY, &[]),
+        update(),
+        lookup(),
+        f(update()),
+        f(f(update())),
+        symbol(1, &[update(), lookup(), update()]),
+        call(UPDATE, &[call(EMPTY, &[]), lookup(), f(int(1))]),
+        call(UPDATE, &[x(), int(1), f(x())]),
+        call(UPDATE, &[f(x()), int(1), x()]),
+        call(LOOKUP, &[f(x()), int(1)]),
+        call(LOOKUP, &[variable(1), int(1)]),
+        call(UPDATE, &[variable(1), int(1), int(1)]),
+        call(7, &[f(update())]),
+        dictionary(&[(1, update())]),
+        dictionary(&[(1, lookup())]),
+    ];
+    // Each under each function, as each argument.
+    for (code, &arity) in ARITIES.iter().enumerate() {
+        for place in 0..arity {
+            for inner in [update(), lookup(), call(EMPTY, &[]), call(7, &[update()])] {
+                let mut arguments = vec![x(); arity];
+                arguments[place] = inner;
+                let outer = call(code as i64, &arguments);
+                terms.push(f(outer.clone()));
+                terms.push(outer);
+            }
+        }
+    }
+    let mut tables = Vec::new();
+    for term in terms {
+        tables.push(table(&[RuleWords::new(0, term.clone(), int(1))]));
+        tables.push(table(&[RuleWords::new(0, f(term.clone()), int(1))]));
+        tables.push(table(&[RuleWords::new(0, f(x()), term.clone())]));
+        tables.push(table(&[any_rule().when(term.clone(), int(1))]));
+        tables.push(table(&[any_rule().when(int(1), term)]));
+    }
+    tables
+}
+
+/// A rule that adds to a meter, and one that looks at another.
+fn meter_rules() -> Vec<RuleWords> {
+    let x = || variable(0);
+    let game = |meters| symbol(1, &[meters, variable(1)]);
+    let at = |key| call(LOOKUP, &[x(), int(key)]);
+    let more = call(UPDATE, &[x(), int(1), call(8, &[at(1), variable(1)])]);
+    let reset = RuleWords::new(20, game(x()), game(two_meters()));
+    vec![
+        RuleWords::new(10, game(x()), game(more)),
+        reset.when(call(11, &[at(3), int(7)]), truth(true)),
+    ]
+}
+
+fn two_meters() -> Words {
+    dictionary(&[(1, int(4)), (3, int(7))])
+}
+
+/// A step by one rule, from X in a symbol to the right.
+fn step_to(right: Words, x: Words, out: usize) -> Call {
+    let left = symbol(1, &[variable(0)]);
+    Call::Step {
+        table: table(&[RuleWords::new(0, left, right)]),
+        configuration: symbol(1, &[x]),
+        out: buffer(out),
+    }
+}
+
+/// Lookups in a literal and in the configuration where the other has the same keys.
+fn lookups_in_both() -> Vec<Call> {
+    let x = || variable(0);
+    let own = dictionary(&[(1, int(4)), (3, int(7)), (4, chain(5, 0))]);
+    let literal = dictionary(&[(1, truth(true)), (3, symbol(1, &[int(1)])), (4, int(0))]);
+    let mut calls = Vec::new();
+    for key in 0..6 {
+        for map in [x(), literal.clone()] {
+            let found = call(LOOKUP, &[map.clone(), int(key)]);
+            let updated = call(UPDATE, &[map, int(key), found.clone()]);
+            for right in [found, updated] {
+                calls.push(Call::Step {
+                    table: table(&[RuleWords::new(0, x(), right)]),
+                    configuration: own.clone(),
+                    out: buffer(40),
+                });
+            }
+        }
+    }
+    calls
+}
+
+/// Lookups and updates at each place of dictionaries of each size, literal and not; their
+/// successors at the limit and one above.
+fn steps_with_meters() -> Vec<Call> {
+    let x = || variable(0);
+    let mut calls = Vec::new();
+    for count in [0, 1, 2, 63, 64] {
+        let meters = map_of(count, &symbol(2, &[int(7)]));
+        for key in [
+            -1,
+            0,
+            1,
+            2,
+            3,
+            62,
+            63,
+            64,
+            124,
+            125,
+            126,
+            127,
+            128,
+            i64::MIN,
+            i64::MAX,
+        ] {
+            for map in [x(), meters.clone()] {
+                if map.len() > 2 * 500 {
+                    continue;
+                }
+                calls.push(step_to(
+                    call(LOOKUP, &[map.clone(), int(key)]),
+                    meters.clone(),
+                    600,
+                ));
+                for value in [int(5), error(), dictionary(&[(1, int(1))])] {
+                    let right = call(UPDATE, &[map.clone(), int(key), value]);
+                    calls.push(step_to(right, meters.clone(), 800));
+                }
+            }
+        }
+        // From three words too few to two too many, for a key that is new and for one that is not.
+        let nodes = meters.len() / 2;
+        for key in [0, 1] {
+            for out in (2 * nodes).saturating_sub(4)..2 * nodes + 12 {
+                let right = call(UPDATE, &[x(), int(key), symbol(2, &[int(9)])]);
+                calls.push(step_to(right.clone(), meters.clone(), out));
+                calls.push(step_to(symbol(3, &[right, int(0)]), meters.clone(), out));
+            }
+        }
+    }
+    // Arguments of every kind.
+    let kinds = [
+        error(),
+        truth(true),
+        int(1),
+        symbol(1, &[int(1)]),
+        dictionary(&[]),
+        two_meters(),
+    ];
+    for one in &kinds {
+        for two in &kinds {
+            for map in [x(), one.clone()] {
+                calls.push(step_to(
+                    call(LOOKUP, &[map.clone(), two.clone()]),
+                    one.clone(),
+                    40,
+                ));
+                let right = call(UPDATE, &[map, two.clone(), one.clone()]);
+                calls.push(step_to(right, one.clone(), 40));
+            }
+        }
+        for code in [6, 7] {
+            calls.push(step_to(call(code, &[x()]), one.clone(), 2));
+        }
+        calls.push(step_to(call(13, &[x(), one.clone()]), one.clone(), 2));
+    }
+    // The largest configuration by an update, and one node more.
+    for nodes in [32_758, 32_759, 32_760] {
+        let meters = dictionary(&[(1, chain(nodes, 3)), (2, map_of(1, &int(1)))]);
+        for value in [
+            int(1),
+            symbol(1, &[int(1)]),
+            symbol(1, &[symbol(1, &[int(1)])]),
+        ] {
+            let right = symbol(1, &[call(UPDATE, &[x(), int(3), value])]);
+            calls.push(step_to(right, meters.clone(), 65_540));
+        }
+    }
+    calls
 }
 
 /// Each such node as a left, in a right, and on both sides of a condition.
@@ -240,11 +551,30 @@ fn nested_calls(nodes: usize) -> Words {
     words
 }
 
+/// Lookups nested so deep that the expression has so many nodes, or one less: a lookup has two
+/// arguments.
+fn nested_lookups(nodes: usize) -> Words {
+    let lookups = (nodes - 1) / 2;
+    [
+        [4, LOOKUP].repeat(lookups),
+        vec![5, 0],
+        [2, 1].repeat(lookups),
+    ]
+    .concat()
+}
+
 /// Terms of 511, 512 and 513 nodes in each place of a rule.
 fn sizes_of_terms() -> Vec<Words> {
     let mut tables = Vec::new();
     for nodes in [511, 512, 513] {
-        for term in [chain(nodes, 3), bush(nodes), nested_calls(nodes)] {
+        let terms = [
+            chain(nodes, 3),
+            bush(nodes),
+            nested_calls(nodes),
+            map_of_nodes(nodes),
+            nested_lookups(nodes),
+        ];
+        for term in terms {
             tables.push(table(&[RuleWords::new(0, term.clone(), int(1))]));
             tables.push(table(&[RuleWords::new(0, variable(0), term.clone())]));
             tables.push(table(&[any_rule().when(term.clone(), int(1))]));
@@ -326,7 +656,7 @@ fn parts_of(words: &[i64]) -> Vec<Words> {
 
 /// The words with each one changed to each number at some limit.
 fn changes_of(words: &[i64]) -> Vec<Words> {
-    const NUMBERS: [i64; 20] = [
+    const NUMBERS: [i64; 24] = [
         -1,
         0,
         1,
@@ -339,6 +669,10 @@ fn changes_of(words: &[i64]) -> Vec<Words> {
         14,
         15,
         16,
+        17,
+        18,
+        64,
+        65,
         256,
         257,
         4_095,
@@ -363,12 +697,18 @@ fn changes_of(words: &[i64]) -> Vec<Words> {
 fn sizes_of_configurations() -> Vec<Words> {
     let mut all = Vec::new();
     for nodes in [32_767, 32_768, 32_769] {
-        let chain = chain(nodes, 4_095);
-        all.push(chain[..2 * nodes - 1].to_vec());
-        all.push(chain[..2 * nodes - 2].to_vec());
-        all.push([chain.as_slice(), &[0]].concat());
-        all.push(chain);
+        let long = chain(nodes, 4_095);
+        all.push(long[..2 * nodes - 1].to_vec());
+        all.push(long[..2 * nodes - 2].to_vec());
+        all.push([long.as_slice(), &[0]].concat());
+        all.push(long);
         all.push(bush(nodes));
+        all.push(map_of_nodes(nodes));
+        // A symbol above nested dictionaries, and a few more nodes.
+        let dictionaries = (nodes - 5) / 4;
+        let rest = nodes - 2 - 4 * dictionaries;
+        let above = [[10, 0].to_vec(), nest(dictionaries), chain(rest, 1)].concat();
+        all.push(above);
     }
     all
 }

@@ -34,8 +34,37 @@ pub fn symbol(number: i64, children: &[Words]) -> Words {
     [&[tag, number], children.concat().as_slice()].concat()
 }
 
+/// A dictionary with these entries, in this order.
+pub fn dictionary(entries: &[(i64, Words)]) -> Words {
+    let mut words = vec![5, entries.len() as i64];
+    for (key, value) in entries {
+        words.extend([2, *key]);
+        words.extend(value);
+    }
+    words
+}
+
+/// The entries of a dictionary whose keys are whole numbers.
+pub fn entries(dictionary: &[i64]) -> Vec<(i64, Words)> {
+    let mut entries = Vec::new();
+    let mut at = 2;
+    for _ in 0..dictionary[1] {
+        let end = term_end(dictionary, at + 2);
+        entries.push((dictionary[at + 1], dictionary[at + 2..end].to_vec()));
+        at = end;
+    }
+    entries
+}
+
+/// The code of `map.empty()`.
+pub const EMPTY: i64 = 15;
+/// The code of `map.lookup(D,K)`.
+pub const LOOKUP: i64 = 16;
+/// The code of `map.update(D,K,V)`.
+pub const UPDATE: i64 = 17;
+
 /// Each function's argument count, by code.
-pub const ARITIES: [usize; 15] = [0, 0, 1, 2, 2, 2, 1, 1, 2, 2, 2, 2, 2, 2, 3];
+pub const ARITIES: [usize; 18] = [0, 0, 1, 2, 2, 2, 1, 1, 2, 2, 2, 2, 2, 2, 3, 0, 2, 3];
 
 /// A chain: symbols with one child above a leaf, so many nodes in all.
 pub fn chain(nodes: usize, number: i64) -> Words {
@@ -61,6 +90,23 @@ pub fn bush(nodes: usize) -> Words {
     words
 }
 
+/// So many dictionaries of two entries, each in the first value of the one around it: four nodes
+/// for each, and one.
+pub fn nest(count: usize) -> Words {
+    let inside = [2, 0];
+    let behind = [2, 2, 2, 0].repeat(count);
+    [[5, 2, 2, 1].repeat(count), inside.to_vec(), behind].concat()
+}
+
+/// The same nodes with symbols in place of the dictionaries.
+pub fn nest_of_symbols(count: usize) -> Words {
+    let mut words = nest(count);
+    for node in words.chunks_mut(2).filter(|node| node[0] == 5) {
+        node.copy_from_slice(&[12, 2]);
+    }
+    words
+}
+
 /// Where the term ends that starts here.
 pub fn term_end(words: &[i64], start: usize) -> usize {
     let mut pending = 1;
@@ -68,6 +114,7 @@ pub fn term_end(words: &[i64], start: usize) -> usize {
     while pending > 0 {
         pending += match words[at] {
             4 => ARITIES[words[at + 1] as usize],
+            5 => 2 * words[at + 1] as usize,
             tag @ 8..=15 => (tag - 8) as usize,
             _ => 0,
         };
@@ -161,5 +208,19 @@ mod tests {
             assert_eq!(bush.len(), 2 * nodes);
             assert_eq!(term_end(&bush, 0), 2 * nodes);
         }
+        for count in [1, 2, 8_000] {
+            for words in [nest(count), nest_of_symbols(count)] {
+                assert_eq!(words.len(), 2 * (4 * count + 1));
+                assert_eq!(term_end(&words, 0), words.len());
+            }
+        }
+    }
+
+    #[test]
+    fn dictionaries() {
+        let pairs = [(-1, int(5)), (3, dictionary(&[])), (4, chain(3, 0))];
+        let words = dictionary(&pairs);
+        assert_eq!(words[..6], [5, 3, 2, -1, 2, 5]);
+        assert_eq!(entries(&words), pairs);
     }
 }

@@ -79,7 +79,8 @@ fn count_calls(term: &Term, valuation: &Valuation, values: &mut Values) {
             Label::Bool(true) => "true",
             Label::Int(number) if number < 0 => "negative",
             Label::Int(_) => "number",
-            _ => "other",
+            Label::Dictionary => "dictionary",
+            _ => "symbol",
         };
         *values.entry((function.code(), kind)).or_default() += 1;
     }
@@ -162,12 +163,23 @@ fn rules_and_functions() {
 
 /// Every function gives every kind of value that it can.
 fn assert_functions(values: &Values) {
-    for code in 0..15 {
+    for code in 0..18 {
         let kinds: &[&str] = match code {
             0 => &["true"],
             1 => &["false"],
             2..=5 | 10..=12 => &["true", "false", "error"],
             6 | 7 | 13 => &["true", "false"],
+            15 => &["dictionary"],
+            16 => &[
+                "true",
+                "false",
+                "number",
+                "negative",
+                "dictionary",
+                "symbol",
+                "error",
+            ],
+            17 => &["dictionary", "error"],
             _ => &["number", "negative", "error"],
         };
         for kind in kinds {

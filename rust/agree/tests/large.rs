@@ -4,7 +4,10 @@
 use agree::call::{Buffer, Call};
 use agree::compare::{Answer, compare, perform};
 use agree::engines;
-use agree::words::{RuleWords, Words, bush, call, chain, int, symbol, table, truth, variable};
+use agree::words::{
+    LOOKUP, RuleWords, UPDATE, Words, bush, call, chain, dictionary, int, nest, symbol, table,
+    truth, variable,
+};
 use interpreter::{Check, Replay, Run, Step};
 use std::thread;
 
@@ -343,5 +346,100 @@ fn lefts_and_rights_as_deep_as_they_may_be() {
             agreed(&call),
             Answer::Step(Step::Stepped { rule: 0, .. })
         ));
+    });
+}
+
+/// Dictionaries of one entry, each the value in the one around it: two nodes for each, and one.
+fn thin_nest(count: usize) -> Words {
+    [[5, 1, 2, 0].repeat(count), int(7)].concat()
+}
+
+#[test]
+fn nested_dictionaries_are_checked() {
+    with_small_stack(|| {
+        let bad = Answer::Check(Check::Refused(interpreter::Refusal::BadConfiguration));
+        let check = |configuration| agreed(&Call::CheckConfiguration { configuration });
+        // The innermost dictionary gets two equal keys, or one that is no number.
+        let cases = [
+            (nest(8_191), 4 * 8_191 + 3),
+            (thin_nest(16_383), 4 * 16_382 + 2),
+        ];
+        for (good, changed) in cases {
+            assert_eq!(check(good.clone()), Answer::Check(Check::Good));
+            let mut wrong = good.clone();
+            wrong[changed] = 1;
+            assert_eq!(check(wrong), bad);
+            let above = [vec![10, 0], good, chain(3, 0)].concat();
+            assert_eq!(check(above), bad, "too many nodes");
+        }
+    });
+}
+
+#[test]
+fn nested_dictionaries_are_carried_along() {
+    with_small_stack(|| {
+        let pair = |one, two| symbol(4, &[one, two]);
+        let swap = RuleWords::new(3, pair(x(), y()), pair(y(), x()));
+        let same = RuleWords::new(3, pair(x(), x()), x());
+        for part in [nest(4_000), thin_nest(8_000)] {
+            let call = run(
+                std::slice::from_ref(&swap),
+                pair(int(1), part.clone()),
+                51,
+                MOST,
+            );
+            assert_eq!(agreed(&call), Answer::Run(Run::Spent { steps: 51 }));
+            let call = step(std::slice::from_ref(&same), pair(part.clone(), part));
+            assert!(matches!(agreed(&call), Answer::Step(Step::Stepped { .. })));
+        }
+    });
+}
+
+#[test]
+fn large_values_are_looked_up_and_updated() {
+    with_small_stack(|| {
+        let at = |key| call(LOOKUP, &[x(), int(key)]);
+        let moved = call(UPDATE, &[x(), int(3), at(2)]);
+        let rules = [
+            RuleWords::new(1, symbol(1, &[x()]), moved).when(at(2), at(2)),
+            RuleWords::new(2, x(), at(3)),
+        ];
+        for part in [
+            nest(4_000),
+            thin_nest(8_000),
+            chain(16_000, 3),
+            bush(16_000),
+        ] {
+            let nodes = part.len() as u32 / 2;
+            let meters = dictionary(&[(1, int(1)), (2, part.clone()), (5, int(1))]);
+            let call = step(&rules, symbol(1, &[meters]));
+            // A dictionary, four keys, two small values and the large one twice.
+            let stepped = Answer::Step(Step::Stepped {
+                rule: 0,
+                action: 1,
+                nodes: 1 + 4 + 2 + 2 * nodes,
+            });
+            assert_eq!(agreed(&call), stepped);
+            let meters = dictionary(&[(1, int(1)), (3, part)]);
+            assert!(matches!(
+                agreed(&step(&rules, meters)),
+                Answer::Step(Step::Stepped { rule: 1, .. })
+            ));
+        }
+    });
+}
+
+#[test]
+fn lookups_nested_as_deep_as_they_may_be() {
+    with_small_stack(|| {
+        // 255 lookups of key 0, each in what the next one finds.
+        let nested = [[4, LOOKUP].repeat(255), x(), int(0).repeat(255)].concat();
+        let rule = RuleWords::new(1, x(), nested.clone()).when(nested.clone(), nested);
+        for (count, value) in [(255, int(7)), (256, thin_nest(1)), (254, vec![0, 0])] {
+            let call = step(std::slice::from_ref(&rule), thin_nest(count));
+            assert!(matches!(agreed(&call), Answer::Step(Step::Stepped { .. })));
+            let outcome = perform(&call, engines::ALL[0]);
+            assert_eq!(outcome.out[..value.len()], value);
+        }
     });
 }

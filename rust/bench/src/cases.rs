@@ -2,13 +2,16 @@
 
 use crate::rules;
 use agree::search::{search, search_once};
-use agree::words::{RuleWords, Words, bush, chain, int, spin_rules, symbol, table};
+use agree::words::{
+    RuleWords, Words, bush, chain, int, nest, nest_of_symbols, spin_rules, symbol, table,
+};
 use interpreter::tree::{Table, Term};
 use interpreter::{Check, Replay, Routines, Run, Step, Tuned};
 
 /// What a case calls.
 enum Routine {
     CheckTable,
+    CheckConfiguration,
     Step,
     Run { budget: u64 },
     Replay { log: Vec<u16>, answer: Replay },
@@ -65,7 +68,7 @@ impl Case {
     }
 
     /// The steps of one call: those of a run, the successors formed by a replay that looks at each
-    /// configuration once, one of a step, the words of a check.
+    /// configuration once, one of a step, the words of a table's check, the nodes of a configuration's.
     pub fn steps(&self) -> u64 {
         self.steps
     }
@@ -82,6 +85,7 @@ impl Case {
     fn count_steps(&mut self) {
         self.steps = match &self.routine {
             Routine::CheckTable => self.table.len() as u64,
+            Routine::CheckConfiguration => self.configuration.len() as u64 / 2,
             Routine::Step => 1,
             Routine::Run { .. } => 0,
             Routine::Replay { log, .. } => {
@@ -103,6 +107,10 @@ impl Case {
         match &self.routine {
             Routine::CheckTable => {
                 assert_eq!(engine.check_table(&self.table), Check::Good);
+            }
+            Routine::CheckConfiguration => {
+                let answer = engine.check_configuration(&self.configuration);
+                assert_eq!(answer, Check::Good);
             }
             Routine::Step => {
                 let answer = engine.step(&self.table, &self.configuration, &mut self.out);
@@ -152,8 +160,10 @@ fn steps_of(answer: Run) -> u64 {
 pub fn all() -> Vec<Case> {
     let mut cases = runs();
     cases.extend(carried());
+    cases.extend(meters());
     cases.extend(replays());
     cases.extend(single());
+    cases.extend(nests());
     cases
 }
 
@@ -226,6 +236,42 @@ fn carried() -> Vec<Case> {
         }
     }
     cases
+}
+
+/// Runs with dictionaries.
+fn meters() -> Vec<Case> {
+    let million = 1_000_000;
+    let run = |name: &str, rules: &[RuleWords], configuration| {
+        let routine = Routine::Run { budget: million };
+        Case::new(name, rules, configuration, 140, routine)
+    };
+    vec![
+        run(
+            "a meter of 64 entries updated",
+            &rules::updated_meters(),
+            rules::cabinet(rules::meters(0), int(0)),
+        ),
+        run(
+            "a meter looked up in a condition",
+            &rules::looked_up_meter(),
+            rules::cabinet(rules::meters(million as i64), int(0)),
+        ),
+    ]
+}
+
+/// The check of the deepest nest of dictionaries, beside the same nodes without them.
+fn nests() -> Vec<Case> {
+    let check = |name: &str, configuration: Words| {
+        let routine = Routine::CheckConfiguration;
+        Case::new(name, &spin_rules(), configuration, 1, routine)
+    };
+    vec![
+        check("check of 8,000 nested dictionaries, a node", nest(8_000)),
+        check(
+            "check of as many nodes without dictionaries, a node",
+            nest_of_symbols(8_000),
+        ),
+    ]
 }
 
 fn replays() -> Vec<Case> {

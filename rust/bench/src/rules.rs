@@ -1,6 +1,8 @@
 //! The tables of the cases.
 
-use agree::words::{RuleWords, Words, call, int, symbol, truth, variable};
+use agree::words::{
+    LOOKUP, RuleWords, UPDATE, Words, call, dictionary, int, symbol, truth, variable,
+};
 
 const X: i64 = 0;
 const Y: i64 = 1;
@@ -28,6 +30,38 @@ pub fn two_counters() -> Vec<RuleWords> {
 /// `state[M, N]` of whole numbers.
 pub fn counters(one: i64, two: i64) -> Words {
     symbol(0, &[int(one), int(two)])
+}
+
+/// `cabinet[D, K]` to `cabinet[map.update(D, K, map.lookup(D, K) + 1), K]`, and a key further each
+/// time: `K` goes through the keys `0` to `63` and back to `0`.
+pub fn updated_meters() -> Vec<RuleWords> {
+    let meter = call(LOOKUP, &[x(), y()]);
+    let updated = call(UPDATE, &[x(), y(), call(8, &[meter, int(1)])]);
+    let next = call(8, &[y(), int(1)]);
+    let further = RuleWords::new(1, cabinet(x(), y()), cabinet(updated.clone(), next));
+    vec![
+        further.when(call(12, &[y(), int(63)]), truth(true)),
+        RuleWords::new(1, cabinet(x(), y()), cabinet(updated, int(0))),
+    ]
+}
+
+/// `cabinet[D, K]` to `cabinet[D, K + 1]` if the meter 32 is at least `K`.
+pub fn looked_up_meter() -> Vec<RuleWords> {
+    let meter = call(LOOKUP, &[x(), int(32)]);
+    let next = call(8, &[y(), int(1)]);
+    let rule = RuleWords::new(1, cabinet(x(), y()), cabinet(x(), next));
+    vec![rule.when(call(11, &[y(), meter]), truth(true))]
+}
+
+/// Meters beside a number.
+pub fn cabinet(meters: Words, number: Words) -> Words {
+    symbol(0, &[meters, number])
+}
+
+/// 64 meters, of keys 0 to 63, that all stand at the same number.
+pub fn meters(number: i64) -> Words {
+    let entries: Vec<(i64, Words)> = (0..64).map(|key| (key, int(number))).collect();
+    dictionary(&entries)
 }
 
 // A small machine for unary numbers: c[cseq[work, rest]], where what is worked on stands in front

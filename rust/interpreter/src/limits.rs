@@ -14,6 +14,8 @@ pub const TERM_NODES: usize = 512;
 pub const VARIABLES: usize = 16;
 /// Symbols: their numbers are below this.
 pub const SYMBOLS: usize = 4_096;
+/// Entries of a dictionary.
+pub const ENTRIES: usize = 64;
 /// Actions: their numbers are below this.
 pub const ACTIONS: usize = 65_536;
 /// Actions of a log.

@@ -189,3 +189,28 @@ fn a_configuration_of_512_nodes() {
     );
     assert_answer(&input(TABLE, &chain, "", "511"), "refused,4\n");
 }
+
+/// The example of a cabinet with meters in a dictionary, within another limit.
+fn progressive(limit: u64) -> String {
+    let example = include_str!("../../../examples/progressive.txt");
+    let lines: Vec<&str> = example.lines().collect();
+    input(lines[0], lines[1], lines[2], &limit.to_string())
+}
+
+#[test]
+fn meters_in_a_dictionary() {
+    let answer = "reproduced,6,0,2,1,3,0,4\n\
+                  10,20,2,75,5,3,2,1,2,520,2,2,2,2500,2,9,5,1,2,1,2,0\n";
+    assert_answer(&progressive(16), answer);
+    // The last configuration has 11 nodes, the first 7.
+    assert_answer(&progressive(11), answer);
+    assert_answer(&progressive(10), "refused,6\n");
+    assert_answer(&progressive(7), "refused,6\n");
+    assert_answer(&progressive(6), "refused,4\n");
+    // The jackpot of meter 2 first: nothing has fed it.
+    let early = progressive(16).replace("\n1,2,1,3,1,4\n", "\n3\n");
+    assert_answer(&early, "not reproduced\n");
+    // The keys of the meters fall.
+    let falling = progressive(16).replace("5,2,2,1,2,980,2,2,", "5,2,2,2,2,980,2,1,");
+    assert_answer(&falling, "refused,2\n");
+}

@@ -1,5 +1,6 @@
 //! The cases of the scope paper, P1 to P7 and those without a mark, for both interpreters. (P8 to
-//! P12 are also in `command_line.rs`, as text.)
+//! P12 are also in `command_line.rs`, as text.) Then those of the first change request,
+//! dictionaries.
 
 use interpreter::{Check, Refusal, Replay, Routines, Run, Step, Tree, Tuned};
 
@@ -358,5 +359,473 @@ fn what_stands_below_calls_and_in_conditions() {
                 routines.name()
             );
         }
+    }
+}
+
+/// The words of a dictionary.
+fn dictionary(entries: &[(i64, &[i64])]) -> Vec<i64> {
+    let mut words = vec![5, entries.len() as i64];
+    for (key, value) in entries {
+        words.extend([2, *key]);
+        words.extend(*value);
+    }
+    words
+}
+
+/// A dictionary with so many entries, of keys 0, 2, 4 and so on: each has ten times its key.
+fn even_keys(count: i64) -> Vec<i64> {
+    let mut words = vec![5, count];
+    for entry in 0..count {
+        words.extend([2, 2 * entry, 2, 20 * entry]);
+    }
+    words
+}
+
+/// A call of these arguments.
+fn call(code: i64, arguments: &[&[i64]]) -> Vec<i64> {
+    [&[4, code], arguments.concat().as_slice()].concat()
+}
+
+fn lookup(dictionary: &[i64], key: &[i64]) -> Vec<i64> {
+    call(16, &[dictionary, key])
+}
+
+fn update(dictionary: &[i64], key: &[i64], value: &[i64]) -> Vec<i64> {
+    call(17, &[dictionary, key, value])
+}
+
+const ERROR: [i64; 2] = [0, 0];
+const TRUE: [i64; 2] = [1, 1];
+const FALSE: [i64; 2] = [1, 0];
+const EMPTY: [i64; 2] = [4, 15];
+
+/// The value of an expression in which X stands for the term, found through a left that binds it.
+fn value_at(routines: &dyn Routines, expression: &[i64], x: &[i64]) -> Vec<i64> {
+    let table = [&[1, 7, 0, 9, 0, 3, 0], expression].concat();
+    let configuration = [&[9, 0], x].concat();
+    let mut out = vec![-1; 1_000];
+    match routines.step(&table, &configuration, &mut out) {
+        Step::Stepped { nodes, .. } => out[..2 * nodes as usize].to_vec(),
+        other => panic!("{}: {other:?}", routines.name()),
+    }
+}
+
+/// The value of a call on a dictionary, wherever that lies: a literal, and a part of the
+/// configuration.
+fn assert_map_value(call: impl Fn(&[i64]) -> Vec<i64>, dictionary: &[i64], value: &[i64]) {
+    for routines in BOTH {
+        let name = routines.name();
+        let literal = value_at(routines, &call(dictionary), &[2, 0]);
+        assert_eq!(literal, value, "{name}, a literal");
+        let part = value_at(routines, &call(&[3, 0]), dictionary);
+        assert_eq!(part, value, "{name}, a part of the configuration");
+    }
+}
+
+#[test]
+fn an_empty_dictionary() {
+    assert_value(&EMPTY, &[5, 0]);
+    assert_value(&update(&EMPTY, &[2, 7], &TRUE), &[5, 1, 2, 7, 1, 1]);
+    assert_value(&lookup(&EMPTY, &[2, 7]), &ERROR);
+}
+
+#[test]
+fn lookups() {
+    let inner = dictionary(&[(1, &[2, 10]), (2, &[0, 0])]);
+    let pair = [10, 4, 2, 8, 5, 0];
+    let all = dictionary(&[
+        (i64::MIN, &[2, -1]),
+        (-1, &pair),
+        (0, &ERROR),
+        (3, &inner),
+        (i64::MAX, &TRUE),
+    ]);
+    let cases: [(i64, &[i64]); 9] = [
+        (i64::MIN, &[2, -1]),
+        (i64::MIN + 1, &ERROR),
+        (-2, &ERROR),
+        (-1, &pair),
+        (0, &ERROR),
+        (1, &ERROR),
+        (3, &inner),
+        (4, &ERROR),
+        (i64::MAX, &TRUE),
+    ];
+    for (key, value) in cases {
+        assert_map_value(|d| lookup(d, &[2, key]), &all, value);
+    }
+    // A lookup in what a lookup found, and below other functions.
+    let nested = |d: &[i64], key| lookup(&lookup(d, &[2, 3]), &[2, key]);
+    assert_map_value(|d| nested(d, 1), &all, &[2, 10]);
+    assert_map_value(|d| nested(d, 3), &all, &ERROR);
+    assert_map_value(|d| call(8, &[&nested(d, 1), &[2, 5]]), &all, &[2, 15]);
+    assert_map_value(|d| call(2, &[&lookup(d, &[2, i64::MAX])]), &all, &FALSE);
+    // The key is looked up too.
+    assert_map_value(|d| lookup(d, &lookup(d, &[2, i64::MIN])), &all, &pair);
+    // Other kinds.
+    for key in [&ERROR[..], &TRUE, &[8, 0], &[5, 0], &EMPTY] {
+        assert_map_value(|d| lookup(d, key), &all, &ERROR);
+    }
+    for other in [&ERROR[..], &TRUE, &[2, 3], &[9, 5, 2, 3], &[8, 5]] {
+        assert_map_value(|d| lookup(d, &[2, 3]), other, &ERROR);
+    }
+    assert_value(&lookup(&call(8, &[&[2, 1], &[2, 2]]), &[2, 3]), &ERROR);
+}
+
+#[test]
+fn updates() {
+    let two = dictionary(&[(1, &[2, 10]), (5, &[9, 2, 2, 50])]);
+    let cases = [
+        // Replaced.
+        (1, dictionary(&[(1, &TRUE), (5, &[9, 2, 2, 50])])),
+        (5, dictionary(&[(1, &[2, 10]), (5, &TRUE)])),
+        // In front, in the middle, at the end.
+        (
+            -3,
+            dictionary(&[(-3, &TRUE), (1, &[2, 10]), (5, &[9, 2, 2, 50])]),
+        ),
+        (
+            2,
+            dictionary(&[(1, &[2, 10]), (2, &TRUE), (5, &[9, 2, 2, 50])]),
+        ),
+        (
+            6,
+            dictionary(&[(1, &[2, 10]), (5, &[9, 2, 2, 50]), (6, &TRUE)]),
+        ),
+    ];
+    for (key, updated) in cases {
+        assert_map_value(|d| update(d, &[2, key], &TRUE), &two, &updated);
+    }
+    // The value may be anything: an error, a dictionary, what a call gives.
+    let with = |value: &[i64]| dictionary(&[(1, value), (5, &[9, 2, 2, 50])]);
+    for value in [&ERROR[..], &two, &[12, 3, 2, 1, 5, 0, 0, 0, 1, 0]] {
+        assert_map_value(|d| update(d, &[2, 1], value), &two, &with(value));
+    }
+    let failed = call(2, &[&[2, 1]]);
+    assert_map_value(|d| update(d, &[2, 1], &failed), &two, &with(&ERROR));
+    assert_map_value(|d| update(d, &[2, 1], &EMPTY), &two, &with(&[5, 0]));
+    assert_map_value(
+        |d| update(d, &[2, 1], &lookup(d, &[2, 5])),
+        &two,
+        &with(&[9, 2, 2, 50]),
+    );
+    assert_map_value(
+        |d| update(d, &[2, 1], &call(8, &[&lookup(d, &[2, 1]), &[2, 7]])),
+        &two,
+        &with(&[2, 17]),
+    );
+    // Another kind.
+    for key in [&ERROR[..], &TRUE, &[8, 0], &[5, 0]] {
+        assert_map_value(|d| update(d, key, &TRUE), &two, &ERROR);
+    }
+    for other in [&ERROR[..], &TRUE, &[2, 3], &[9, 5, 2, 3]] {
+        assert_map_value(|d| update(d, &[2, 1], &TRUE), other, &ERROR);
+    }
+    // An update of what a lookup finds.
+    let nest = dictionary(&[(0, &two), (9, &TRUE)]);
+    assert_map_value(
+        |d| update(&lookup(d, &[2, 0]), &[2, 1], &TRUE),
+        &nest,
+        &with(&TRUE),
+    );
+}
+
+#[test]
+fn a_sixty_fifth_key() {
+    let (most, less) = (even_keys(64), even_keys(63));
+    for key in [-1, 1, 63, 127, 128] {
+        assert_map_value(|d| update(d, &[2, key], &TRUE), &most, &ERROR);
+    }
+    assert_map_value(|d| update(d, &[2, 126], &[2, 1_260]), &less, &most);
+    for (key, place) in [(0, 0), (62, 31), (126, 63)] {
+        let mut replaced = most.clone();
+        replaced[4 + 4 * place..6 + 4 * place].copy_from_slice(&TRUE);
+        assert_map_value(|d| update(d, &[2, key], &TRUE), &most, &replaced);
+    }
+}
+
+#[test]
+fn a_dictionary_is_no_truth_value_no_number_and_no_symbol() {
+    for map in [&EMPTY[..], &[5, 0], &even_keys(3)] {
+        assert_value(&call(6, &[map]), &FALSE);
+        assert_value(&call(7, &[map]), &FALSE);
+        assert_value(&call(13, &[map, map]), &FALSE);
+        assert_value(&call(13, &[map, &[8, 0]]), &FALSE);
+        assert_value(&call(2, &[map]), &ERROR);
+        assert_value(&call(8, &[map, &[2, 1]]), &ERROR);
+    }
+}
+
+#[test]
+fn a_dictionary_in_a_left_matches_itself_alone() {
+    // f[dictionary, X] to X
+    let table = |map: &[i64]| [&[1, 0, 0, 10, 6], map, &[3, 0, 3, 0]].concat();
+    let two = dictionary(&[(1, &[2, 10]), (5, &TRUE)]);
+    let others = [
+        dictionary(&[(1, &[2, 10])]),
+        dictionary(&[(1, &[2, 10]), (5, &FALSE)]),
+        dictionary(&[(1, &[2, 10]), (6, &TRUE)]),
+        dictionary(&[(1, &[2, 10]), (5, &TRUE), (6, &TRUE)]),
+        vec![5, 0],
+        vec![12, 2, 2, 1, 2, 10, 2, 5, 1, 1],
+    ];
+    for routines in BOTH {
+        let step = |map: &[i64], other: &[i64]| {
+            let configuration = [&[10, 6], other, &[2, 3]].concat();
+            routines.step(&table(map), &configuration, &mut [0; 8])
+        };
+        assert_eq!(step(&two, &two), stepped(0, 0, 1));
+        assert_eq!(step(&[5, 0], &[5, 0]), stepped(0, 0, 1));
+        for other in &others {
+            assert_eq!(step(&two, other), Step::Stuck);
+        }
+        // pair[X, X]
+        let repeated = [1, 0, 0, 10, 4, 3, 0, 3, 0, 2, 1];
+        let same = [&[10, 4][..], &two, &two].concat();
+        assert_eq!(
+            routines.step(&repeated, &same, &mut [0; 2]),
+            stepped(0, 0, 1)
+        );
+        let different = [&[10, 4][..], &two, &others[1]].concat();
+        assert_eq!(
+            routines.step(&repeated, &different, &mut [0; 2]),
+            Step::Stuck
+        );
+    }
+}
+
+#[test]
+fn conditions_compare_dictionaries() {
+    // f[X] to 1 if these two are the same
+    let holds = |routines: &dyn Routines, one: &[i64], two: &[i64], x: &[i64]| {
+        let table = [&[1, 0, 1, 9, 0, 3, 0, 2, 1], one, two].concat();
+        let configuration = [&[9, 0], x].concat();
+        routines.step(&table, &configuration, &mut [0; 2]) == stepped(0, 0, 1)
+    };
+    let map = dictionary(&[(1, &[2, 10]), (5, &[5, 0]), (6, &ERROR)]);
+    let x = &[3, 0];
+    for routines in BOTH {
+        assert!(holds(routines, x, &map, &map));
+        assert!(holds(routines, &EMPTY, x, &[5, 0]));
+        assert!(holds(routines, &lookup(x, &[2, 1]), &[2, 10], &map));
+        assert!(holds(routines, &lookup(x, &[2, 5]), &EMPTY, &map));
+        assert!(holds(routines, &lookup(x, &[2, 5]), &[5, 0], &map));
+        // An error that is stored, and one for a key that is not there.
+        assert!(holds(
+            routines,
+            &lookup(x, &[2, 6]),
+            &lookup(x, &[2, 7]),
+            &map
+        ));
+        assert!(!holds(routines, &lookup(x, &[2, 1]), &[2, 11], &map));
+        assert!(!holds(routines, x, &EMPTY, &map));
+        let le = call(11, &[&[2, 10], &lookup(x, &[2, 1])]);
+        assert!(holds(routines, &le, &TRUE, &map));
+    }
+}
+
+#[test]
+fn dictionaries_of_configurations() {
+    let bad = Check::Refused(Refusal::BadConfiguration);
+    let n = |number| vec![2, number];
+    let (zero, one) = (n(0), n(1));
+    let good = [
+        dictionary(&[]),
+        dictionary(&[(i64::MIN, &one), (-1, &one), (0, &one), (i64::MAX, &one)]),
+        dictionary(&[(1, &dictionary(&[(1, &dictionary(&[])), (2, &zero)]))]),
+        dictionary(&[(1, &[9, 0, 5, 1, 2, 1, 2, 1]), (2, &ERROR)]),
+        even_keys(64),
+    ];
+    let mut wrong = vec![
+        // Equal keys, falling ones, and such that only unsigned numbers would rise.
+        dictionary(&[(1, &one), (1, &one)]),
+        dictionary(&[(1, &one), (0, &one)]),
+        dictionary(&[(0, &one), (-1, &one)]),
+        dictionary(&[(1, &one), (2, &one), (2, &zero)]),
+        dictionary(&[(0, &dictionary(&[(1, &one), (1, &one)])), (1, &one)]),
+        // Too many, and other counts.
+        even_keys(65),
+        vec![5, -1],
+        vec![5, 1, 2, 1],
+        vec![5, 0, 2, 1, 2, 1],
+        vec![5, 1],
+    ];
+    // Keys that are no whole numbers; a variable or a call as a key or in a value.
+    for key in [
+        &ERROR[..],
+        &TRUE,
+        &[8, 1],
+        &[9, 1, 2, 1],
+        &[5, 0],
+        &[3, 0],
+        &EMPTY,
+    ] {
+        wrong.push([&[5, 1], key, &[2, 1]].concat());
+    }
+    for value in [&[3, 0][..], &EMPTY, &[9, 0, 3, 0], &[5, 1, 2, 0, 4, 0]] {
+        wrong.push(dictionary(&[(1, value)]));
+    }
+    for routines in BOTH {
+        for words in &good {
+            assert_eq!(routines.check_configuration(words), Check::Good);
+        }
+        for words in &wrong {
+            assert_eq!(routines.check_configuration(words), bad, "{words:?}");
+            let above = [&[10, 1, 2, 0], words.as_slice()].concat();
+            assert_eq!(routines.check_configuration(&above), bad, "{above:?}");
+        }
+    }
+}
+
+#[test]
+fn dictionaries_of_rules() {
+    let bad = Check::Refused(Refusal::BadTable);
+    let x = [3, 0];
+    let literals = [
+        (dictionary(&[]), Check::Good),
+        (dictionary(&[(1, &TRUE), (2, &[5, 0])]), Check::Good),
+        (dictionary(&[(1, &x)]), bad),
+        (dictionary(&[(1, &EMPTY)]), bad),
+        (dictionary(&[(1, &[9, 0, 3, 0])]), bad),
+        (dictionary(&[(1, &dictionary(&[(2, &x)]))]), bad),
+        (dictionary(&[(1, &dictionary(&[(2, &EMPTY)]))]), bad),
+        (vec![5, 1, 3, 0, 2, 1], bad),
+        (vec![5, 1, 4, 15, 2, 1], bad),
+        (dictionary(&[(2, &TRUE), (1, &TRUE)]), bad),
+        (dictionary(&[(1, &TRUE), (1, &TRUE)]), bad),
+    ];
+    for (literal, answer) in literals {
+        let tables = [
+            // f[literal, X] to 1; f[X] to literal; f[X] to f[literal]; in a call; in a condition.
+            [&[1, 0, 0, 10, 0], &literal[..], &[3, 0, 2, 1]].concat(),
+            [&[1, 0, 0, 9, 0, 3, 0], &literal[..]].concat(),
+            [&[1, 0, 0, 9, 0, 3, 0, 9, 0], &literal[..]].concat(),
+            [&[1, 0, 0, 9, 0, 3, 0, 4, 7], &literal[..]].concat(),
+            [&[1, 0, 1, 9, 0, 3, 0, 2, 1], &literal[..], &[2, 1]].concat(),
+            [&[1, 0, 1, 9, 0, 3, 0, 2, 1, 2, 1], &literal[..]].concat(),
+        ];
+        for table in tables {
+            for routines in BOTH {
+                assert_eq!(routines.check_table(&table), answer, "{table:?}");
+            }
+        }
+    }
+}
+
+#[test]
+fn where_an_update_may_stand() {
+    let bad = Check::Refused(Refusal::BadTable);
+    let x = &[3, 0][..];
+    let updated = update(x, &[2, 1], x);
+    let looked = lookup(x, &[2, 1]);
+    let right = |right: &[i64]| [&[1, 0, 0, 9, 0, 3, 0], right].concat();
+    let condition = |side: &[i64]| [&[1, 0, 1, 9, 0, 3, 0, 2, 1], side, &[2, 1]].concat();
+    let cases = [
+        (right(&updated), Check::Good),
+        (right(&[&[9, 3], &updated[..]].concat()), Check::Good),
+        (
+            right(&[&[10, 3], &updated[..], &updated].concat()),
+            Check::Good,
+        ),
+        (right(&update(&EMPTY, &looked, &EMPTY)), Check::Good),
+        (right(&update(&looked, &looked, &looked)), Check::Good),
+        (right(&looked), Check::Good),
+        (condition(&looked), Check::Good),
+        (
+            condition(&call(8, &[&looked, &lookup(&looked, x)])),
+            Check::Good,
+        ),
+        // Under a call.
+        (right(&call(7, &[&updated])), bad),
+        (right(&lookup(&updated, &[2, 1])), bad),
+        (right(&lookup(x, &updated)), bad),
+        (right(&[&[9, 3], &call(7, &[&updated])[..]].concat()), bad),
+        // Inside an update, as each argument, and deeper.
+        (right(&update(&updated, &[2, 1], x)), bad),
+        (right(&update(x, &updated, x)), bad),
+        (right(&update(x, &[2, 1], &updated)), bad),
+        (right(&update(x, &[2, 1], &call(7, &[&updated]))), bad),
+        // In a condition, and in a left.
+        (condition(&updated), bad),
+        (condition(&call(7, &[&updated])), bad),
+        ([&[1, 0, 0], &updated[..], &[2, 1]].concat(), bad),
+        ([&[1, 0, 0, 9, 0], &updated[..], &[2, 1]].concat(), bad),
+        // Arguments that are no expressions.
+        (right(&update(x, &[2, 1], &[9, 0, 3, 0])), bad),
+        (right(&update(x, &[2, 1], &[9, 0, 2, 1])), Check::Good),
+        // No function has code 18.
+        (right(&[4, 18]), bad),
+    ];
+    for (table, answer) in cases {
+        for routines in BOTH {
+            assert_eq!(
+                routines.check_table(&table),
+                answer,
+                "{} of {table:?}",
+                routines.name()
+            );
+        }
+    }
+}
+
+#[test]
+fn the_nodes_of_an_update_count() {
+    // game[D, V] to game[map.update(D, 2, V), V], where D has the keys 1 and 3.
+    let table = [
+        1, 0, 0, 10, 7, 3, 0, 3, 1, 10, 7, 4, 17, 3, 0, 2, 2, 3, 1, 3, 1,
+    ];
+    let map = dictionary(&[(1, &TRUE), (3, &TRUE)]);
+    let configuration = [&[10, 7], &map[..], &[9, 0, 2, 5]].concat();
+    // The symbol; the dictionary's 5 nodes, and 3 for the new entry; V.
+    let nodes = 1 + 5 + 3 + 2;
+    for routines in BOTH {
+        let mut out = vec![9; 2 * nodes];
+        let answer = routines.step(&table, &configuration, &mut out);
+        assert_eq!(answer, stepped(0, 0, nodes as u32));
+        let updated = dictionary(&[(1, &TRUE), (2, &[9, 0, 2, 5]), (3, &TRUE)]);
+        assert_eq!(out, [&[10, 7], &updated[..], &[9, 0, 2, 5]].concat());
+        let mut out = vec![9; 2 * nodes - 1];
+        let answer = routines.step(&table, &configuration, &mut out);
+        assert_eq!(answer, Step::OverLimit);
+        assert_eq!(out, vec![9; 2 * nodes - 1]);
+    }
+}
+
+#[test]
+fn a_replay_with_a_meter() {
+    // Action 1: D to map.update(D, 1, map.lookup(D, 1) + 5). Action 2, if 10 is at 1: D to
+    // map.update(D, 2, 0).
+    let x = &[3, 0][..];
+    let looked = lookup(x, &[2, 1]);
+    let table = [
+        &[2, 1, 0, 3, 0],
+        &update(x, &[2, 1], &call(8, &[&looked, &[2, 5]]))[..],
+        &[2, 1, 3, 0],
+        &update(x, &[2, 2], &[2, 0]),
+        &looked,
+        &[2, 10],
+    ]
+    .concat();
+    let start = dictionary(&[(1, &[2, 0])]);
+    for routines in BOTH {
+        let replay = |log: &[u16], limit: u64| {
+            let (mut out, mut choices) = (vec![9; 2 * limit as usize], vec![9; log.len()]);
+            let mut work = vec![9; (log.len() + 1) * (2 * limit as usize + 2)];
+            let answer = routines.replay(
+                &table,
+                &start,
+                log,
+                limit,
+                &mut out,
+                &mut choices,
+                &mut work,
+            );
+            (answer, choices, out)
+        };
+        let (answer, choices, out) = replay(&[1, 1, 2], 5);
+        assert_eq!((answer, &choices[..]), (Replay::Reproduced, &[0, 0, 1][..]));
+        assert_eq!(out, dictionary(&[(1, &[2, 10]), (2, &[2, 0])]));
+        assert_eq!(replay(&[1, 1, 2], 4).0, Replay::OverLimit);
+        assert_eq!(replay(&[1, 2], 5).0, Replay::NotReproduced);
     }
 }

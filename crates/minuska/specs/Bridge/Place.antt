@@ -14,6 +14,7 @@ use Rattle.minuska.specs.Word.{tagWord, datumWord, ok, encode}
 use Rattle.minuska.specs.Satisfaction.{Valuation}
 use Rattle.minuska.specs.Rule.{Rule, Table, conditionWords, ruleWords, IsTable, IsConfiguration}
 use Rattle.minuska.specs.Computed.Step.{order}
+use Rattle.minuska.specs.Bridge.Shape.{shapely}
 use Rattle.minuska.specs.Bridge.Walk.{fixedNodes, variableNodes}
 
 -- the words from one place up to another
@@ -25,15 +26,15 @@ pub record Stands (ws : List ℤ) (at : ℕ) (xs : List ℤ) : Type 0 where
   pub words : take (length xs) (drop at ws) ≡ xs
   pub within : at + length xs ≤ length ws
 
--- a ground term stands at a place; whatever ground term stands there, it ends at r
+-- a ground term in range stands at a place, its dictionaries in order or not; whatever such term stands there, it ends at r
 pub record GroundAt (ws : List ℤ) (at : ℕ) : Type 0 where
   pub term : Term
-  pub good : T (ok (single term))
+  pub shape : T (shapely (single term))
   pub ground : T (isGround (single term))
   pub stands : Stands ws at (encode (single term))
 
 pub record GroundEnds (ws : List ℤ) (at r : ℕ) : Type 0 where
-  pub ends : (t : Term) → T (ok (single t)) → T (isGround (single t)) → Stands ws at (encode (single t)) → r ≡ at + length (encode (single t))
+  pub ends : (t : Term) → T (shapely (single t)) → T (isGround (single t)) → Stands ws at (encode (single t)) → r ≡ at + length (encode (single t))
 
 -- Two arrays of 16 numbers bind a valuation's variables to parts of a configuration: each variable's term stands from its start up to its end.
 pub record BoundAt (config : List ℤ) (start end v : ℕ) (t : Term) : Type 0 where

@@ -29,13 +29,13 @@ at p (suc n) t i h = ⊎-elim (λ e. rw e (and-left (p n) (below p n) t)) (λ l.
 
 -- a code without a row takes two arguments
 rowOr : ℕ → Bool → Bool
-rowOr n b = eqb n 0 || eqb n 1 || eqb n 2 || eqb n 6 || eqb n 7 || eqb n 14 || b
+rowOr n b = eqb n 0 || eqb n 1 || eqb n 2 || eqb n 6 || eqb n 7 || eqb n 14 || eqb n 15 || eqb n 17 || b
 
-others : (n : ℕ) → n < length functions → (n ≡ 0 → ⊥) → (n ≡ 1 → ⊥) → (n ≡ 2 → ⊥) → (n ≡ 6 → ⊥) → (n ≡ 7 → ⊥) → (n ≡ 14 → ⊥) → 2 ≡ arityOf n
+others : (n : ℕ) → n < length functions → (n ≡ 0 → ⊥) → (n ≡ 1 → ⊥) → (n ≡ 2 → ⊥) → (n ≡ 6 → ⊥) → (n ≡ 7 → ⊥) → (n ≡ 14 → ⊥) → (n ≡ 15 → ⊥) → (n ≡ 17 → ⊥) → 2 ≡ arityOf n
 unfolding below rowOr arityOf
-others n h a b c d e f =
+others n h a b c d e f g i =
     eqb→eq 2 (arityOf n)
-    (rw (ne-eqb n 0 a, ne-eqb n 1 b, ne-eqb n 2 c, ne-eqb n 6 d, ne-eqb n 7 e, ne-eqb n 14 f) at
+    (rw (ne-eqb n 0 a, ne-eqb n 1 b, ne-eqb n 2 c, ne-eqb n 6 d, ne-eqb n 7 e, ne-eqb n 14 f, ne-eqb n 15 g, ne-eqb n 17 i) at
     (at (λ m. rowOr m (eqb 2 (arityOf m))) (length functions) tt n h))
 
 returns : tie.Need-returns
@@ -63,9 +63,17 @@ unfolding arityOf
 returns-6 c = rw (c .match .keys6)
 
 returns-7 : tie.Need-returns-7
-returns-7 c =
+unfolding arityOf
+returns-7 c = rw (c .match .keys7)
+
+returns-8 : tie.Need-returns-8
+unfolding arityOf
+returns-8 c = rw (c .match .keys8)
+
+returns-9 : tie.Need-returns-9
+returns-9 c =
     let r = c .match .rest in
-    others (c .before .args .code) (c .before .pre) (r .0 .0 .0 .0 .0 .1) (r .0 .0 .0 .0 .1) (r .0 .0 .0 .1) (r .0 .0 .1) (r .0 .1) (r .1)
+    others (c .before .args .code) (c .before .pre) (r .0 .0 .0 .0 .0 .0 .0 .1) (r .0 .0 .0 .0 .0 .0 .1) (r .0 .0 .0 .0 .0 .1) (r .0 .0 .0 .0 .1) (r .0 .0 .0 .1) (r .0 .0 .1) (r .0 .1) (r .1)
 
 pub arity-spec : {M : Type 1} → statement M
-arity-spec = tie.close (tie.spec returns returns-2 returns-3 returns-4 returns-5 returns-6 returns-7)
+arity-spec = tie.close (tie.spec returns returns-2 returns-3 returns-4 returns-5 returns-6 returns-7 returns-8 returns-9)

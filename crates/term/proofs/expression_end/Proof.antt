@@ -33,33 +33,33 @@ turn c =
     let g = c .before .before .pre in
     let l = c .before .loop in
     place-turn anyLabel s (l .i) (l .left) (at + length (encode (single (g .term)))) (c .loop-test .taken)
-    (sym (l .inv) ∙ term-ends s at (g .term) (g .good) (g .stands))
+    (sym (l .inv) ∙ term-ends s at (g .term) (g .shape) (g .stands))
 
 -- the two words that the code read are the node's
 module _ (c : tie.After-word2 Inv-loop μ-loop) where
   abbrev words : List ℤ
-  words = c .before .before .before .before .args .s .now
+  words = c .before .before .before .before .before .args .s .now
 
   abbrev i : ℕ
-  i = c .before .before .before .loop .i
+  i = c .before .before .before .before .loop .i
 
-  abbrev here : Turn anyLabel words i (c .before .before .before .loop .left) (c .before .before .before .before .args .at + length (encode (single (c .before .before .before .before .pre .term))))
-  here = turn (c .before .before)
+  abbrev here : Turn anyLabel words i (c .before .before .before .before .loop .left) (c .before .before .before .before .before .args .at + length (encode (single (c .before .before .before .before .before .pre .term))))
+  here = turn (c .before .before .before)
 
-  tag : toZ w64 (ofZ w64 (c .before .word .result)) ≡ getD words i (pos 0)
-  tag = let f : SFits w64 (c .before .word .result) = search needs in toZ-ofZ w64 (c .before .word .result) f ∙ c .before .word .ensures
+  tag : toZ w64 (ofZ w64 (c .before .before .word .result)) ≡ getD words i (pos 0)
+  tag = let f : SFits w64 (c .before .before .word .result) = search needs in toZ-ofZ w64 (c .before .before .word .result) f ∙ c .before .before .word .ensures
 
   datum : toZ w64 (ofZ w64 (c .word2 .result)) ≡ getD words (i + 1) (pos 0)
   datum = let f : SFits w64 (c .word2 .result) = search needs in toZ-ofZ w64 (c .word2 .result) f ∙ c .word2 .ensures
 
-  words-are : childrenIf anyLabel (toZ w64 (ofZ w64 (c .before .word .result))) (toZ w64 (ofZ w64 (c .word2 .result))) ≡ some (here .count)
+  words-are : childrenIf anyLabel (toZ w64 (ofZ w64 (c .before .before .word .result))) (toZ w64 (ofZ w64 (c .word2 .result))) ≡ some (here .count)
   words-are = ap₂ (childrenIf anyLabel) tag datum ∙ here .children
 
-  said : here .count ≡ childrenOf (toZ w64 (ofZ w64 (c .before .word .result))) (toZ w64 (ofZ w64 (c .word2 .result)))
-  said = count-is (children-node anyLabel (toZ w64 (ofZ w64 (c .before .word .result))) (toZ w64 (ofZ w64 (c .word2 .result))) (here .count) words-are)
+  said : here .count ≡ childrenOf (toZ w64 (ofZ w64 (c .before .before .word .result))) (toZ w64 (ofZ w64 (c .word2 .result)))
+  said = count-is (children-node anyLabel (toZ w64 (ofZ w64 (c .before .before .word .result))) (toZ w64 (ofZ w64 (c .word2 .result))) (here .count) words-are)
 
 -- the count that was answered is the node's
-counted : (c : tie.After-children Inv-loop μ-loop) → turn (c .before .before .before) .count ≡ c .children .result
+counted : (c : tie.After-children Inv-loop μ-loop) → turn (c .before .before .before .before) .count ≡ c .children .result
 counted c = said (c .before) ∙ sym (c .children .ensures)
 
 loop-holds : tie.Need-loop-holds Inv-loop μ-loop
@@ -68,11 +68,25 @@ loop-holds c = term-end-is (c .args .s .now) (c .args .at)
 word-requires : tie.Need-word-requires Inv-loop μ-loop
 word-requires c κs = let r = turn c .room in omega arith
 
+-- a dictionary: the terms left to read end where the one at the start does
+mixed-expression-end-requires : tie.Need-mixed-expression-end-requires Inv-loop μ-loop
+mixed-expression-end-requires c κs =
+    let u = c .before .before .before in
+    let a = u .before .args in
+    let g = u .before .pre in
+    record { end = a .at + length (encode (single (g .term))); ends = sym (u .loop .inv) ∙ term-ends (a .s .now) (a .at) (g .term) (g .shape) (g .stands) }
+
+returns : tie.Need-returns Inv-loop μ-loop
+returns c =
+    let u = c .before .before .before .before in
+    let a = u .before .args in
+    record { ends = λ t x h. let e = sym (c .mixed-expression-end .ensures .is) ∙ (sym (u .loop .inv) ∙ term-ends (a .s .now) (a .at) t x h) in cc }
+
 add-word : tie.Need-add-word Inv-loop μ-loop
-add-word c = let r = turn (c .before) .room in omega arith
+add-word c = let r = turn (c .before .before) .room in omega arith
 
 word-requires-2 : tie.Need-word-requires-2 Inv-loop μ-loop
-word-requires-2 c κs = let r = turn (c .before) .room in omega arith
+word-requires-2 c κs = let r = turn (c .before .before) .room in omega arith
 
 sub-left : tie.Need-sub-left Inv-loop μ-loop
 sub-left c = search needs
@@ -81,24 +95,23 @@ children-requires : tie.Need-children-requires Inv-loop μ-loop
 children-requires c κs = record { count = here c .count; is = words-are c }
 
 add-left : tie.Need-add-left Inv-loop μ-loop
-add-left c = let e = counted c in let f = turn (c .before .before .before) .few in omega arith
+add-left c = let e = counted c in let f = turn (c .before .before .before .before) .few in omega arith
 
 add-i : tie.Need-add-i Inv-loop μ-loop
-add-i c = let r = turn (c .before .before .before) .room in omega arith
+add-i c = let r = turn (c .before .before .before .before) .room in omega arith
 
 loop-less : tie.Need-loop-less Inv-loop μ-loop
-loop-less c = let r = turn (c .before .before .before) .room in omega arith
+loop-less c = let r = turn (c .before .before .before .before) .room in omega arith
 
 loop-again : tie.Need-loop-again Inv-loop μ-loop
 loop-again c =
-    let s = c .before .before .before .before .before .args .s .now in
-    let at = c .before .before .before .before .before .args .at in
-    let g = c .before .before .before .before .before .pre in
-    term-ends s at (g .term) (g .good) (g .stands) ∙
-    sym (rw (counted c) at (turn (c .before .before .before) .rest))
+    let u = c .before .before .before .before .before .before in
+    let g = u .pre in
+    term-ends (u .args .s .now) (u .args .at) (g .term) (g .shape) (g .stands) ∙
+    sym (rw (counted c) at (turn (c .before .before .before .before) .rest))
 
-returns : tie.Need-returns Inv-loop μ-loop
-returns c =
+returns-2 : tie.Need-returns-2 Inv-loop μ-loop
+returns-2 c =
     let s = c .before .before .args .s .now in
     let at = c .before .before .args .at in
     let l = c .before .loop in
@@ -113,6 +126,8 @@ expression-end-spec =
     μ-loop
     loop-holds
     word-requires
+    mixed-expression-end-requires
+    returns
     add-word
     word-requires-2
     sub-left
@@ -121,4 +136,4 @@ expression-end-spec =
     add-i
     loop-less
     loop-again
-    returns)
+    returns-2)

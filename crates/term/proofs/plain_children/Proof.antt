@@ -1,45 +1,62 @@
--- `plain_children` meets its contract.
-use mathlib.Core.Path.{_≡_, refl, _∙_, ap}
-use mathlib.Core.Bool.{true}
-use Prim.Native.Nat.{ℕ, _-_}
+-- `plain_children` meets its contract: a dictionary's count is in its datum, any other node's shows in its tag.
+use mathlib.Core.Path.{_≡_, sym, _∙_, ap, ap₂}
+use Prim.Native.Nat.{ℕ, _*_, _≤_}
 use native.Mathlib.Omega.{arith}
 use borrow.Author.Needs.{needs}
-use lib.IntN.{ℤ, pos, negsuc}
+use borrow.Author.Tests.{le-ltb}
+use lib.Dec.{lit<}
+use lib.IntN.{ℤ, pos, natAbs}
 use lib.Signed.{ltZ}
 use mir.Syntax.{w64}
+use mir.Val.{toZ, ofZ}
 use mir.ValLaws.{toZ-ofZ}
-use borrow.Author.Tests.{ltb-true}
-use Rattle.minuska.specs.Computed.Read.{plainChildren, symbolTag}
-use Rattle.term.proofs.SignedLaw.{Natural, natural}
+use Rattle.minuska.specs.Computed.Read.{plainChildren, dictionaryTag}
+use Rattle.minuska.specs.Dictionary.{maxEntries}
+use Rattle.term.specs.TermEnd.{tagChildren}
+use Rattle.term.proofs.NodeLaw.{dictionary-words, plain-by-tag}
+use Rattle.term.proofs.SignedLaw.{Natural, natural, same-bits}
 use Rattle.term.proofs.plain_children.Statement.{statement}
 use Rattle.term.proofs.plain_children.Tie as tie
 
-large : (c : tie.Else1) → Natural (c .before .args .t) symbolTag
-large c = natural (c .before .args .t) symbolTag (c .before .fits .t) (c .if1 .left)
-
-low : (t d : ℤ) → ltZ t (pos symbolTag) ≡ true → 0 ≡ plainChildren t d
+twice : (n : ℕ) (t d : ℤ) → t ≡ pos dictionaryTag → d ≡ pos n → 2 * n ≡ plainChildren t d
 unfolding plainChildren
-low (pos t) d h = let l = ltb-true t symbolTag h in omega arith
-low (negsuc t) d h = refl
+twice n t d e f = sym (ap₂ plainChildren e f)
 
-high : (n : ℕ) (d : ℤ) → n - symbolTag ≡ plainChildren (pos n) d
-unfolding plainChildren
-high n d = refl
+-- a dictionary's entry count
+module _ (c : tie.Then1) where
+  tag : c .before .args .t ≡ pos dictionaryTag
+  tag = same-bits (c .before .args .t) (pos dictionaryTag) (c .before .fits .t) (record { sfits = lit< tt }) (c .if1 .taken)
+
+  datum : (n : ℕ) × (c .before .args .d ≡ pos n) × (n ≤ maxEntries)
+  datum = dictionary-words (c .before .args .t) (c .before .args .d) (c .before .pre) tag
+
+  number : Natural (c .before .args .d) 0
+  number =
+      let d = c .before .args .d in
+      let f = c .before .fits .d in
+      natural d 0 f (ap (λ (z : ℤ). ltZ z (pos 0)) (toZ-ofZ w64 d f ∙ datum .1) ∙ le-ltb (datum .0) 0 (omega arith))
+
+  gives : natAbs (toZ w64 (ofZ w64 (c .before .args .d))) ≡ datum .0
+  gives = let e = number .is in let f = datum .1 in let g : number .number ≡ datum .0 = cc in number .gives ∙ g
 
 cast-result : tie.Need-cast-result
-cast-result c = large c .cast
+cast-result c = number c .cast
 
-cast-result-2 : tie.Need-cast-result-2
-cast-result-2 c = search needs
-
-sub-result : tie.Need-sub-result
-sub-result c = rw (large c .gives) (large c .low)
+mul-result : tie.Need-mul-result
+mul-result c = let e = gives c in let h = datum c .2 in omega arith
 
 returns : tie.Need-returns
-returns c = low (c .before .args .t) (c .before .args .d) (rw (toZ-ofZ w64 (c .before .args .t) (c .before .fits .t)) at (c .if1 .taken))
+returns c = rw (gives c) (twice (datum c .0) (c .before .args .t) (c .before .args .d) (tag c) (datum c .1))
+
+tag-children-requires : tie.Need-tag-children-requires
+tag-children-requires c κs = search needs
 
 returns-2 : tie.Need-returns-2
-returns-2 c = rw (large c .gives) (high (large c .number) (c .before .args .d) ∙ ap (λ (t : ℤ). plainChildren t (c .before .args .d)) (large c .is))
+returns-2 c =
+    let a = c .before .before .args in
+    let f = c .before .before .fits .t in
+    c .tag-children .ensures ∙ (ap tagChildren (toZ-ofZ w64 (a .t) f) ∙ plain-by-tag (a .t) (a .d) (λ e. c .before .if1 .left (ap (ofZ w64) e)))
 
 pub plain-children-spec : {M : Type 1} → statement M
-plain-children-spec = tie.close (tie.spec cast-result cast-result-2 sub-result returns returns-2)
+plain-children-spec =
+    tie.close (tie.spec cast-result mul-result returns tag-children-requires returns-2)

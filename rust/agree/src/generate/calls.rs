@@ -1,6 +1,7 @@
 //! Calls on generated games.
 
 use super::damage::damage;
+use super::faults::{faulty_configuration, faulty_table};
 use super::games::{Game, game};
 use super::terms::ground;
 use super::walk::{run_sizes, searchable, walk};
@@ -77,6 +78,9 @@ impl Calls {
     fn table_words(&mut self, percent: usize) -> Words {
         let mut words = self.table_words.clone();
         if self.rng.percent(percent) {
+            if self.rng.percent(50) {
+                return faulty_table(&mut self.rng, &self.game.rules);
+            }
             damage(&mut self.rng, &mut words);
         }
         words
@@ -86,7 +90,11 @@ impl Calls {
     fn configuration_words(&mut self, percent: usize) -> Words {
         let mut words = self.game.configuration.clone();
         if self.rng.percent(percent) {
-            damage(&mut self.rng, &mut words);
+            if self.rng.percent(30) {
+                faulty_configuration(&mut self.rng, &mut words);
+            } else {
+                damage(&mut self.rng, &mut words);
+            }
         }
         words
     }
@@ -303,6 +311,11 @@ impl Calls {
             self.damage_log(&mut log);
         }
         let limit = self.limit(initial, needed);
+        // Room in the frames, for what the search keeps there.
+        let limit = match self.rng.below(10) {
+            0..3 if limit < 200 => limit + self.rng.below(8 * limit as usize + 1) as u64,
+            _ => limit,
+        };
         let table = self.table_words(4);
         let configuration = self.configuration_words(4);
         // Much more where paths meet, so that there is little to do for a search that remembers.
@@ -312,11 +325,6 @@ impl Calls {
             _ => 600,
         };
         log.truncate(searchable_of(&table, &configuration, &log, limit, most));
-        // Room in the frames, for what the search keeps there.
-        let limit = match self.rng.below(10) {
-            0..3 if limit < 200 => limit + self.rng.below(8 * limit as usize + 1) as u64,
-            _ => limit,
-        };
         if self.rng.percent(1) {
             // Too long, whatever the rest is.
             log.resize(4_097, 0);

@@ -4,7 +4,7 @@ use crate::rng::Rng;
 use crate::words::Words;
 
 /// Words at a limit of some field, or one beyond.
-const EDGES: [i64; 26] = [
+const EDGES: [i64; 31] = [
     -1,
     0,
     1,
@@ -18,6 +18,11 @@ const EDGES: [i64; 26] = [
     14,
     15,
     16,
+    17,
+    18,
+    63,
+    64,
+    65,
     255,
     256,
     257,

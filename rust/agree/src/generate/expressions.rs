@@ -1,15 +1,19 @@
 //! Expressions, rights and conditions over the variables of a left.
 
-use super::terms::{Bound, ground, leaf, number, symbol_number};
+use super::terms::{Bound, ground, leaf, map, number, symbol_number};
 use crate::rng::Rng;
-use crate::words::{ARITIES, RuleWords, Words, call, int, symbol, truth, variable};
+use crate::words::{
+    ARITIES, EMPTY, LOOKUP, RuleWords, UPDATE, Words, call, entries, error, int, symbol, truth,
+    variable,
+};
 use interpreter::tree::{Term, matches, value};
 
 /// What an argument should be.
 #[derive(Clone, Copy, PartialEq)]
-enum Kind {
+pub(super) enum Kind {
     Bool,
     Int,
+    Map,
     Any,
 }
 
@@ -17,11 +21,12 @@ fn kind_of(term: &[i64]) -> Kind {
     match term[0] {
         1 => Kind::Bool,
         2 => Kind::Int,
+        5 => Kind::Map,
         _ => Kind::Any,
     }
 }
 
-/// The kind of the function's arguments and of its value.
+/// The kind of the function's arguments and of its value. (A lookup goes its own way.)
 fn signature(code: i64) -> (Kind, Kind) {
     match code {
         0..=5 => (Kind::Bool, Kind::Bool),
@@ -54,6 +59,9 @@ impl Expressions<'_> {
         if depth == 0 || self.rng.percent(40) {
             return self.leaf(kind);
         }
+        if kind == Kind::Map || self.has_map() && self.rng.percent(35) {
+            return self.lookup(kind, depth);
+        }
         let code = loop {
             let code = self.rng.range(0, 14);
             if kind == Kind::Any || signature(code).1 == kind {
@@ -61,6 +69,113 @@ impl Expressions<'_> {
             }
         };
         self.call(code, depth)
+    }
+
+    /// Whether a variable stands for a dictionary. Now and then one might.
+    fn has_map(&mut self) -> bool {
+        self.rng.percent(1) || self.bound.iter().any(|(_, term)| term[0] == 5)
+    }
+
+    /// A dictionary as an expression, and the dictionary that it should be: a variable, what a
+    /// lookup finds, a literal, or the empty one.
+    fn map(&mut self, depth: usize) -> (Words, Words) {
+        let maps: Vec<&(i64, Words)> = self.bound.iter().filter(|(_, term)| term[0] == 5).collect();
+        let (mut expression, mut words) = match self.rng.below(20) {
+            0 => (call(EMPTY, &[]), vec![5, 0]),
+            1..4 => {
+                let count = self.rng.below(4);
+                let literal = map(self.rng, count, 3);
+                (literal.clone(), literal)
+            }
+            _ if maps.is_empty() => (vec![5, 0], vec![5, 0]),
+            _ => {
+                let (number, term) = maps[self.rng.below(maps.len())];
+                (variable(*number), term.clone())
+            }
+        };
+        for _ in 0..depth {
+            let inner: Vec<(i64, Words)> = entries(&words)
+                .into_iter()
+                .filter(|(_, value)| value[0] == 5)
+                .collect();
+            if inner.is_empty() || self.rng.percent(40) {
+                break;
+            }
+            let (key, value) = &inner[self.rng.below(inner.len())];
+            expression = call(LOOKUP, &[expression, int(*key)]);
+            words = value.clone();
+        }
+        (expression, words)
+    }
+
+    /// A lookup that should find such a value, if the dictionary has one.
+    pub(super) fn lookup(&mut self, kind: Kind, depth: usize) -> Words {
+        let (map, words) = self.map(depth);
+        let all = entries(&words);
+        let wanted: Vec<i64> = all
+            .iter()
+            .filter(|(_, value)| kind == Kind::Any || kind_of(value) == kind)
+            .map(|(key, _)| *key)
+            .collect();
+        let key = match self.rng.below(20) {
+            0 => self.of(Kind::Any, depth.saturating_sub(1)),
+            1 => self.of(Kind::Int, depth.saturating_sub(1)),
+            2 => int(number(self.rng)),
+            3..5 => int(self.other_key(&words)),
+            _ if wanted.is_empty() => int(self.some_key(&words)),
+            _ => int(self.rng.pick(&wanted)),
+        };
+        if self.rng.percent(4) {
+            return call(LOOKUP, &[self.leaf(Kind::Any), key]);
+        }
+        call(LOOKUP, &[map, key])
+    }
+
+    /// A key of the dictionary, if it has one.
+    fn some_key(&mut self, words: &[i64]) -> i64 {
+        match entries(words).as_slice() {
+            [] => self.rng.range(-1, 3),
+            all => all[self.rng.below(all.len())].0,
+        }
+    }
+
+    /// A key that the dictionary should not have: below all, above all, or between two.
+    fn other_key(&mut self, words: &[i64]) -> i64 {
+        let all = entries(words);
+        let (Some(first), Some(last)) = (all.first(), all.last()) else {
+            return self.rng.range(-1, 3);
+        };
+        let gap = all
+            .windows(2)
+            .find(|two| two[0].0.wrapping_add(1) < two[1].0);
+        match (self.rng.below(3), gap) {
+            (0, _) => first.0.wrapping_sub(self.rng.range(1, 3)),
+            (1, Some(two)) => two[0].0 + 1,
+            _ => last.0.wrapping_add(self.rng.range(1, 3)),
+        }
+    }
+
+    /// An update: it replaces a value, or puts one in front, in the middle or at the end. Rarely it
+    /// has an argument of another kind.
+    pub(super) fn update(&mut self, depth: usize) -> Words {
+        let (mut map, words) = self.map(depth);
+        if self.rng.percent(4) {
+            map = self.leaf(Kind::Any);
+        }
+        let key = match self.rng.below(20) {
+            0 => self.of(Kind::Any, depth),
+            1..3 => self.of(Kind::Int, depth),
+            3..10 => int(self.some_key(&words)),
+            _ => int(self.other_key(&words)),
+        };
+        let value = match self.rng.below(10) {
+            0 => error(),
+            1 => self.map(depth).0,
+            2 => ground(self.rng, 5),
+            3..6 => self.lookup(Kind::Any, depth),
+            _ => self.any(depth),
+        };
+        call(UPDATE, &[map, key, value])
     }
 
     /// A call of this function.
@@ -143,6 +258,7 @@ impl Expressions<'_> {
         match kind {
             Kind::Bool => truth(self.rng.percent(50)),
             Kind::Int => int(number(self.rng)),
+            Kind::Map => self.map(0).0,
             Kind::Any if self.rng.percent(50) => leaf(self.rng),
             Kind::Any => ground(self.rng, 6),
         }
@@ -155,7 +271,9 @@ impl Expressions<'_> {
                 0..6 if !self.bound.is_empty() => {
                     variable(self.bound[self.rng.below(self.bound.len())].0)
                 }
-                0..8 => self.any(2),
+                0..7 => self.any(2),
+                7 if self.has_map() => self.update(2),
+                7 => self.any(2),
                 _ => ground(self.rng, 4),
             };
         }
@@ -172,11 +290,10 @@ impl Expressions<'_> {
             let bound = self.bound.iter().find(|(number, _)| *number == node[1]);
             match bound {
                 Some((_, term)) if node[0] == 3 && self.rng.percent(60) => {
-                    let kind = kind_of(term);
-                    right.extend(if kind == Kind::Any {
-                        self.leaf(kind)
-                    } else {
-                        self.of(kind, 2)
+                    right.extend(match kind_of(term) {
+                        Kind::Any => self.leaf(Kind::Any),
+                        Kind::Map if self.rng.percent(80) => self.update(2),
+                        kind => self.of(kind, 2),
                     });
                 }
                 _ => right.extend(node),

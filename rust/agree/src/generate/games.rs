@@ -1,7 +1,8 @@
 //! Tables with a configuration that they do something with.
 
 use super::expressions::{Expressions, calls_on};
-use super::terms::{Bound, generalise, ground, leaf, number, symbol_number};
+use super::meters;
+use super::terms::{Bound, generalise, ground, leaf, map, number, symbol_number};
 use crate::rng::Rng;
 use crate::words::{
     RuleWords, Words, bush, call, chain, int, spin_rules, symbol, table, truth, variable,
@@ -23,9 +24,12 @@ impl Game {
     }
 }
 
-/// A game of any kind.
+/// A game of any kind. About half of them have dictionaries.
 pub fn game(rng: &mut Rng) -> Game {
-    let mut game = match rng.below(1_000) {
+    let mut game = match rng.below(1_600) {
+        1_000..1_380 => meters::cabinet(rng),
+        1_380..1_450 => meters::bare(rng),
+        1_450..1_600 => meters::counters(rng),
         0..50 => spin(rng),
         50..230 => machine(rng),
         230..350 => stack(rng),
@@ -62,7 +66,7 @@ fn mix(rng: &mut Rng, game: &mut Game) {
 }
 
 /// Few actions, so that rules share them.
-fn actions(rng: &mut Rng) -> Vec<i64> {
+pub(super) fn actions(rng: &mut Rng) -> Vec<i64> {
     let count = rng.pick(&[1, 2, 2, 3]);
     (0..count)
         .map(|_| match rng.below(5) {
@@ -134,6 +138,7 @@ fn content(rng: &mut Rng) -> Words {
         0..5 => int(rng.range(-2, 5)),
         5 => int(number(rng)),
         6 => truth(rng.percent(50)),
+        7 if rng.percent(50) => map(rng, 2, 3),
         _ => ground(rng, 6),
     }
 }
@@ -229,7 +234,7 @@ fn from_configuration(rng: &mut Rng) -> Game {
     }
 }
 
-/// Changes the number of one node.
+/// Changes the number of one node. A key may be one that does not rise then.
 fn change_leaf(rng: &mut Rng, configuration: &mut [i64]) {
     let at = 2 * rng.below(configuration.len() / 2);
     match configuration[at] {
@@ -242,7 +247,12 @@ fn change_leaf(rng: &mut Rng, configuration: &mut [i64]) {
 
 /// Calls of all functions on numbers near the limits and on other arguments.
 fn functions(rng: &mut Rng) -> Game {
-    let arguments = close_arguments(rng);
+    let mut arguments = close_arguments(rng);
+    let last = if rng.percent(30) { 17 } else { 14 };
+    if last == 17 && rng.percent(60) {
+        let place = rng.below(3);
+        arguments[place] = map(rng, 2, 2);
+    }
     let configuration = symbol(0, &arguments);
     let left = symbol(0, &[variable(0), variable(1), variable(2)]);
     let actions = actions(rng);
@@ -251,7 +261,7 @@ fn functions(rng: &mut Rng) -> Game {
             let mut terms: Vec<Words> = vec![variable(0), variable(1), variable(2)];
             terms.push(rng.pick(&arguments_of(&arguments)).to_vec());
             rng.shuffle(&mut terms);
-            let codes: Vec<i64> = (0..1 + rng.below(5)).map(|_| rng.range(0, 14)).collect();
+            let codes: Vec<i64> = (0..1 + rng.below(5)).map(|_| rng.range(0, last)).collect();
             let mut calls = calls_on(&terms, &codes);
             let bound: Bound = arguments
                 .iter()

@@ -3,7 +3,9 @@
 mod calls;
 mod damage;
 mod expressions;
+mod faults;
 mod games;
+mod meters;
 mod terms;
 mod walk;
 

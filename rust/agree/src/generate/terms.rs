@@ -1,7 +1,8 @@
 //! Numbers, ground terms, and lefts that match them.
 
 use crate::rng::Rng;
-use crate::words::{Words, error, int, symbol, term_end, truth, variable};
+use crate::words::{Words, dictionary, error, int, symbol, term_end, truth, variable};
+use std::collections::BTreeSet;
 
 /// A whole number: small ones, those at a limit of a function, and any.
 pub(super) fn number(rng: &mut Rng) -> i64 {
@@ -42,18 +43,60 @@ pub(super) fn symbol_number(rng: &mut Rng) -> i64 {
 
 /// A ground term of one node.
 pub(super) fn leaf(rng: &mut Rng) -> Words {
-    match rng.below(10) {
-        0 => error(),
-        1..3 => truth(rng.percent(50)),
-        3..8 => int(number(rng)),
+    match rng.below(100) {
+        0..10 => error(),
+        10..30 => truth(rng.percent(50)),
+        30..80 => int(number(rng)),
+        80 => dictionary(&[]),
         _ => symbol(symbol_number(rng), &[]),
     }
+}
+
+/// So many keys that rise: near each other, or with those at the limits of a word.
+pub(super) fn keys(rng: &mut Rng, count: usize) -> Vec<i64> {
+    let last = 3 * count as i64;
+    let edges = rng.percent(30);
+    let mut keys = BTreeSet::new();
+    while keys.len() < count {
+        keys.insert(if edges && rng.percent(20) {
+            number(rng)
+        } else {
+            rng.range(-2, last)
+        });
+    }
+    keys.into_iter().collect()
+}
+
+/// A dictionary of so many entries, at most so many nodes in each value.
+pub(super) fn map(rng: &mut Rng, count: usize, nodes: usize) -> Words {
+    let keys = keys(rng, count);
+    let entries: Vec<(i64, Words)> = keys
+        .into_iter()
+        .map(|key| {
+            let value = match rng.below(10) {
+                0..4 => int(rng.range(-2, 9)),
+                4 if nodes > 2 => small_map(rng, nodes),
+                _ => ground(rng, nodes),
+            };
+            (key, value)
+        })
+        .collect();
+    dictionary(&entries)
+}
+
+/// A dictionary with entries, of at most so many nodes, three at least.
+fn small_map(rng: &mut Rng, nodes: usize) -> Words {
+    let count = 1 + rng.below(4.min((nodes - 1) / 2));
+    map(rng, count, (nodes - 1) / count - 1)
 }
 
 /// A ground term of at most so many nodes.
 pub(super) fn ground(rng: &mut Rng, nodes: usize) -> Words {
     if nodes <= 1 || rng.percent(15) {
         return leaf(rng);
+    }
+    if nodes > 2 && rng.percent(12) {
+        return small_map(rng, nodes);
     }
     let most = 7.min(nodes - 1);
     let count = if rng.percent(70) {
@@ -82,7 +125,7 @@ pub(super) fn ground(rng: &mut Rng, nodes: usize) -> Words {
 pub(super) type Bound = Vec<(i64, Words)>;
 
 /// A left that matches a configuration, or nearly: parts of the configuration become variables.
-/// The chance in a hundred that a part does is given.
+/// The chance in a hundred that a part does is given. Below a dictionary none does.
 pub(super) fn generalise(rng: &mut Rng, configuration: &[i64], chance: usize) -> (Words, Bound) {
     let mut left = Words::new();
     let mut bound = Bound::new();
@@ -93,6 +136,10 @@ pub(super) fn generalise(rng: &mut Rng, configuration: &[i64], chance: usize) ->
             let end = term_end(configuration, at);
             let number = variable_for(rng, &configuration[at..end], &mut bound);
             left.extend(variable(number));
+            at = end;
+        } else if configuration[at] == 5 {
+            let end = term_end(configuration, at);
+            left.extend(&configuration[at..end]);
             at = end;
         } else {
             left.extend(&configuration[at..at + 2]);

@@ -1,6 +1,7 @@
-//! The fifteen built-in functions.
+//! The eighteen built-in functions.
 
-use super::term::Label;
+use super::dictionary::{dictionary_of, empty, entries_of, lookup, update};
+use super::term::{Label, Term};
 use crate::limits;
 
 /// A built-in function.
@@ -37,13 +38,20 @@ pub enum Function {
     SameSymbol = 13,
     /// `z.share(A,B,C)`
     Share = 14,
+    /// `map.empty()`
+    Empty = 15,
+    /// `map.lookup(D,K)`
+    Lookup = 16,
+    /// `map.update(D,K,V)`
+    Update = 17,
 }
 
 use Function::*;
 
 /// The functions in the order of their codes.
-const ALL: [Function; 15] = [
-    True, False, Neg, And, Or, BoolEq, BoolIs, IntIs, Plus, Minus, IntEq, Le, Lt, SameSymbol, Share,
+const ALL: [Function; 18] = [
+    True, False, Neg, And, Or, BoolEq, BoolIs, IntIs, Plus, Minus, IntEq, Le, Lt, SameSymbol,
+    Share, Empty, Lookup, Update,
 ];
 
 impl Function {
@@ -52,7 +60,7 @@ impl Function {
         ALL.get(usize::try_from(code).ok()?).copied()
     }
 
-    /// The function's code, 0 to 14.
+    /// The function's code, 0 to 17.
     pub fn code(self) -> i64 {
         self as i64
     }
@@ -60,35 +68,46 @@ impl Function {
     /// How many arguments it takes.
     pub fn arity(self) -> usize {
         match self {
-            True | False => 0,
+            True | False | Empty => 0,
             Neg | BoolIs | IntIs => 1,
-            And | Or | BoolEq | Plus | Minus | IntEq | Le | Lt | SameSymbol => 2,
-            Share => 3,
+            And | Or | BoolEq | Plus | Minus | IntEq | Le | Lt | SameSymbol | Lookup => 2,
+            Share | Update => 3,
         }
     }
 
-    /// Its result. No function looks below its arguments' first nodes, and each result is one node,
-    /// so labels are enough.
-    pub fn apply(self, arguments: &[Label]) -> Label {
-        use Label::{Bool, Error, Int, Symbol};
-        match (self, arguments) {
-            (True, []) => Bool(true),
-            (False, []) => Bool(false),
-            (Neg, &[Bool(a)]) => Bool(!a),
-            (And, &[Bool(a), Bool(b)]) => Bool(a && b),
-            (Or, &[Bool(a), Bool(b)]) => Bool(a || b),
-            (BoolEq, &[Bool(a), Bool(b)]) => Bool(a == b),
-            (BoolIs, [a]) => Bool(matches!(a, Bool(_))),
-            (IntIs, [a]) => Bool(matches!(a, Int(_))),
-            (Plus, &[Int(a), Int(b)]) => a.checked_add(b).map_or(Error, Int),
-            (Minus, &[Int(a), Int(b)]) => a.checked_sub(b).map_or(Error, Int),
-            (IntEq, &[Int(a), Int(b)]) => Bool(a == b),
-            (Le, &[Int(a), Int(b)]) => Bool(a <= b),
-            (Lt, &[Int(a), Int(b)]) => Bool(a < b),
-            (SameSymbol, &[Symbol(a), Symbol(b)]) => Bool(a == b),
-            (SameSymbol, [_, _]) => Bool(false),
-            (Share, &[Int(a), Int(b), Int(c)]) => share(a, b, c).map_or(Error, Int),
-            _ => Error,
+    /// Its result. Only the functions on dictionaries look below their arguments' first nodes.
+    pub fn apply(self, arguments: &[Term]) -> Term {
+        use Label::{Bool, Dictionary, Int, Symbol};
+        let error = || Term::leaf(Label::Error);
+        let truth = |truth| Term::leaf(Bool(truth));
+        let number = |number: Option<i64>| number.map_or_else(error, |n| Term::leaf(Int(n)));
+        let labels: Vec<Label> = arguments.iter().map(Term::label).collect();
+        match (self, &labels[..]) {
+            (True, []) => truth(true),
+            (False, []) => truth(false),
+            (Neg, &[Bool(a)]) => truth(!a),
+            (And, &[Bool(a), Bool(b)]) => truth(a && b),
+            (Or, &[Bool(a), Bool(b)]) => truth(a || b),
+            (BoolEq, &[Bool(a), Bool(b)]) => truth(a == b),
+            (BoolIs, [a]) => truth(matches!(a, Bool(_))),
+            (IntIs, [a]) => truth(matches!(a, Int(_))),
+            (Plus, &[Int(a), Int(b)]) => number(a.checked_add(b)),
+            (Minus, &[Int(a), Int(b)]) => number(a.checked_sub(b)),
+            (IntEq, &[Int(a), Int(b)]) => truth(a == b),
+            (Le, &[Int(a), Int(b)]) => truth(a <= b),
+            (Lt, &[Int(a), Int(b)]) => truth(a < b),
+            (SameSymbol, &[Symbol(a), Symbol(b)]) => truth(a == b),
+            (SameSymbol, [_, _]) => truth(false),
+            (Share, &[Int(a), Int(b), Int(c)]) => number(share(a, b, c)),
+            (Empty, []) => dictionary_of(empty()),
+            (Lookup, &[Dictionary, Int(key)]) => {
+                lookup(&entries_of(&arguments[0]), key).unwrap_or_else(error)
+            }
+            (Update, &[Dictionary, Int(key), _]) => {
+                let updated = update(&entries_of(&arguments[0]), key, &arguments[2]);
+                updated.map_or_else(error, dictionary_of)
+            }
+            _ => error(),
         }
     }
 }

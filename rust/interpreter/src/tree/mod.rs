@@ -4,6 +4,7 @@
 //! reading, writing, comparing and freeing a term keep their own stacks. Only what goes down a
 //! term of a rule, at most 512 nodes, recurses.
 
+mod dictionary;
 mod function;
 mod relation;
 mod routines;

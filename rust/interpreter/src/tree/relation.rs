@@ -54,10 +54,10 @@ pub fn value(expression: &Term, valuation: &Valuation) -> Term {
         Label::Variable(variable) => valuation.get(variable).clone(),
         Label::Call(function) => {
             let arguments = expression.children().iter();
-            let labels: Vec<Label> = arguments
-                .map(|argument| value(argument, valuation).label())
+            let values: Vec<Term> = arguments
+                .map(|argument| value(argument, valuation))
                 .collect();
-            Term::leaf(function.apply(&labels))
+            function.apply(&values)
         }
         _ => expression.clone(),
     }

@@ -1,5 +1,6 @@
 //! Tables and rules as trees, and what makes them well formed.
 
+use super::function::Function;
 use super::term::{Label, Term};
 use crate::limits;
 
@@ -80,23 +81,30 @@ fn number(word: i64, least: usize, most: usize) -> Option<usize> {
         .filter(|number| (least..=most).contains(number))
 }
 
-/// A left has no call.
+/// A left has no call, and no variable below a dictionary.
 fn is_left(term: &Term) -> bool {
-    term.all(|label| !matches!(label, Label::Call(_)))
+    match term.label() {
+        Label::Call(_) => false,
+        Label::Dictionary => term.is_ground(),
+        _ => term.children().iter().all(is_left),
+    }
 }
 
-/// A right is a term with expressions at its leaves.
+/// A right is a term with expressions at its leaves, or updates whose arguments are expressions.
 fn is_right(term: &Term) -> bool {
     match term.label() {
         Label::Symbol(_) => term.children().iter().all(is_right),
+        Label::Call(Function::Update) => term.children().iter().all(is_expression),
         _ => is_expression(term),
     }
 }
 
-/// An expression is a ground term, a variable, or a call whose arguments are expressions.
+/// An expression is a ground term, a variable, or a call other than an update whose arguments are
+/// expressions.
 fn is_expression(term: &Term) -> bool {
     match term.label() {
         Label::Variable(_) => true,
+        Label::Call(Function::Update) => false,
         Label::Call(_) => term.children().iter().all(is_expression),
         _ => term.is_ground(),
     }

@@ -1,5 +1,6 @@
 //! Terms as trees.
 
+use super::dictionary::has_rising_keys;
 use super::function::Function;
 use crate::limits;
 use std::mem;
@@ -18,6 +19,8 @@ pub enum Label {
     Variable(u8),
     /// Tag 4.
     Call(Function),
+    /// Tag 5. The children are key and value in turn; the datum says how many entries there are.
+    Dictionary,
     /// Tags 8 to 15: the symbol's number. The tag says the child count.
     Symbol(u16),
 }
@@ -48,6 +51,10 @@ impl Label {
                 let function = Function::from_code(datum)?;
                 Some((Label::Call(function), function.arity()))
             }
+            5 => {
+                let entries = below(datum, limits::ENTRIES + 1)?;
+                Some((Label::Dictionary, 2 * entries))
+            }
             8..=15 => {
                 let symbol = below(datum, limits::SYMBOLS)?;
                 Some((Label::Symbol(symbol as u16), (tag - 8) as usize))
@@ -64,6 +71,7 @@ impl Label {
             Label::Int(number) => [2, number],
             Label::Variable(variable) => [3, variable as i64],
             Label::Call(function) => [4, function.code()],
+            Label::Dictionary => [5, children as i64 / 2],
             Label::Symbol(symbol) => [8 + children as i64, symbol as i64],
         }
     }
@@ -106,7 +114,7 @@ impl Term {
     }
 
     /// Reads one term, of at most so many nodes, from the start of the words. Gives it with the
-    /// words that follow it.
+    /// words that follow it. The keys of its dictionaries are whole numbers that rise.
     pub fn read(words: &[i64], max_nodes: usize) -> Option<(Term, &[i64])> {
         // The nodes that still lack children: label, child count, the children so far.
         let mut open: Vec<(Label, usize, Vec<Term>)> = Vec::new();
@@ -116,7 +124,7 @@ impl Term {
             rest = behind;
             let (label, count) = Label::read(tag, datum)?;
             open.push((label, count, Vec::with_capacity(count)));
-            if let Some(term) = close(&mut open) {
+            if let Some(term) = close(&mut open)? {
                 return Some((term, rest));
             }
         }
@@ -153,16 +161,19 @@ impl Term {
 }
 
 /// Makes terms of the last open nodes as long as they lack no child. Gives the term if none is
-/// left open.
-fn close(open: &mut Vec<(Label, usize, Vec<Term>)>) -> Option<Term> {
+/// left open, and nothing at all if a dictionary's keys are not as they should be.
+fn close(open: &mut Vec<(Label, usize, Vec<Term>)>) -> Option<Option<Term>> {
     while let Some((label, _, children)) = open.pop_if(|(_, count, have)| have.len() == *count) {
+        if label == Label::Dictionary && !has_rising_keys(&children) {
+            return None;
+        }
         let term = Term::new(label, children);
         match open.last_mut() {
             Some((_, _, siblings)) => siblings.push(term),
-            None => return Some(term),
+            None => return Some(Some(term)),
         }
     }
-    None
+    Some(None)
 }
 
 /// Terms are equal if their words are.

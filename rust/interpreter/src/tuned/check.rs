@@ -1,27 +1,70 @@
 //! The checks: one walk over the words.
 
+use super::dictionary::dictionary_end;
 use super::rules::{Rule, Rules};
-use super::{BOOL, BOUND, CALL, ERROR, INT, LAST, Node, SYMBOL, VARIABLE, child_count, nodes};
+use super::{BOOL, BOUND, CALL, DICTIONARY, ERROR, INT, LAST, LOOKUP, Node, SYMBOL, UPDATE};
+use super::{VARIABLE, child_count, nodes};
 use crate::limits;
 
-/// Whether the words are one ground term that fills them.
-pub(super) fn is_configuration(words: &[i64]) -> bool {
+/// What a configuration's check finds.
+#[derive(Clone, Copy, PartialEq)]
+pub(super) enum Configuration {
+    /// The words are no ground term that fills them.
+    Malformed,
+    /// They are one, and have no dictionary.
+    Plain,
+    /// They are one with a dictionary.
+    WithMaps,
+}
+
+/// Whether the words are one ground term that fills them, and with a dictionary.
+pub(super) fn configuration(words: &[i64]) -> Configuration {
     if !words.len().is_multiple_of(2) || words.len() > 2 * limits::CONFIGURATION_NODES {
-        return false;
+        return Configuration::Malformed;
     }
     let mut pending = 1;
     for node in nodes(words) {
         if pending == 0 || !is_ground_node(node) {
-            return false;
+            return configuration_with_maps(nodes(words));
         }
         pending += child_count(node[0]);
         pending -= 1;
     }
-    pending == 0
+    if pending == 0 {
+        Configuration::Plain
+    } else {
+        Configuration::Malformed
+    }
 }
 
-/// The index of a table, if its words are well formed.
+/// The same, for what has no chance without a dictionary.
+#[cold]
+fn configuration_with_maps(nodes: &[Node]) -> Configuration {
+    let mut term = Term::<true>::new(nodes);
+    match term.ground(1) {
+        Some(()) if term.at == nodes.len() => Configuration::WithMaps,
+        _ => Configuration::Malformed,
+    }
+}
+
+/// The index of a table, if its words are well formed. Most tables have no dictionaries and pass
+/// the check without them.
 pub(super) fn index(words: &[i64]) -> Option<Rules<'_>> {
+    let mut rules = index_of::<false>(words);
+    if rules.is_none() {
+        rules = index_with_maps(words);
+    }
+    rules
+}
+
+/// The same, for what has no chance without dictionaries.
+#[cold]
+#[inline(never)]
+fn index_with_maps(words: &[i64]) -> Option<Rules<'_>> {
+    index_of::<true>(words)
+}
+
+fn index_of<const MAPS: bool>(words: &[i64]) -> Option<Rules<'_>> {
     let (&count, rest) = words.split_first()?;
     if words.len() > limits::TABLE_WORDS
         || !rest.len().is_multiple_of(2)
@@ -29,8 +72,8 @@ pub(super) fn index(words: &[i64]) -> Option<Rules<'_>> {
     {
         return None;
     }
-    let mut rules = Rules::with_capacity(count as usize);
-    let mut walk = Walk {
+    let mut rules = Rules::with_capacity(count as usize, MAPS);
+    let mut walk = Walk::<MAPS> {
         nodes: nodes(rest),
         at: 0,
     };
@@ -42,7 +85,7 @@ pub(super) fn index(words: &[i64]) -> Option<Rules<'_>> {
 }
 
 #[inline(always)]
-fn in_range(word: i64, bound: usize) -> bool {
+pub(super) fn in_range(word: i64, bound: usize) -> bool {
     (word as u64) < bound as u64
 }
 
@@ -56,33 +99,43 @@ const HIGHEST: [u64; 16] = {
     highest
 };
 
-/// The tags of a configuration's nodes, a bit each.
+/// The tags of a configuration's nodes, dictionaries left out, a bit each.
 const GROUND: u32 = 1 << ERROR | 1 << BOOL | 1 << INT | 0xff << SYMBOL;
 
-/// Whether these two words are a node of a configuration.
+/// Whether these two words are a node of a configuration, and no dictionary.
 #[inline(always)]
-fn is_ground_node(&[tag, datum]: &Node) -> bool {
+pub(super) fn is_ground_node(&[tag, datum]: &Node) -> bool {
     in_range(tag, 16) && GROUND >> tag & 1 == 1 && datum as u64 <= HIGHEST[tag as usize]
 }
 
-/// The argument count of the function of this code, if there is one.
+/// The argument count of the function of this code, if there is one that may stand under a call:
+/// an update may not.
 #[inline(always)]
-fn argument_count(code: i64) -> Option<usize> {
-    const COUNTS: [u8; 15] = [0, 0, 1, 2, 2, 2, 1, 1, 2, 2, 2, 2, 2, 2, 3];
-    COUNTS.get(code as usize).map(|&count| count as usize)
+fn argument_count<const MAPS: bool>(code: i64) -> Option<usize> {
+    const COUNTS: [u8; 17] = [0, 0, 1, 2, 2, 2, 1, 1, 2, 2, 2, 2, 2, 2, 3, 0, 2];
+    let counts = if MAPS { &COUNTS[..] } else { &COUNTS[..15] };
+    counts.get(code as usize).map(|&count| count as usize)
 }
 
-/// What a walk over one term of a rule knows of it.
-struct Term<'a> {
+/// A walk over one term of a rule. Without `MAPS` it refuses dictionaries and their functions.
+struct Term<'a, const MAPS: bool> {
     nodes: &'a [Node],
     at: usize,
     /// The variables met, a bit each.
     variables: u16,
 }
 
-impl Term<'_> {
+impl<'a, const MAPS: bool> Term<'a, MAPS> {
+    fn new(nodes: &'a [Node]) -> Term<'a, MAPS> {
+        Term {
+            nodes,
+            at: 0,
+            variables: 0,
+        }
+    }
+
     #[inline(always)]
-    fn next(&mut self) -> Option<&Node> {
+    fn next(&mut self) -> Option<&'a Node> {
         let node = self.nodes.get(self.at);
         self.at += 1;
         node
@@ -94,6 +147,14 @@ impl Term<'_> {
         }
         self.variables |= 1 << datum;
         Some(())
+    }
+
+    /// The rest of a dictionary whose first node was read last. Gives all its nodes: they are
+    /// ground, keys included.
+    fn dictionary(&mut self) -> Option<&'a [Node]> {
+        let start = self.at - 1;
+        self.at = dictionary_end(self.nodes, start)?;
+        Some(&self.nodes[start..self.at])
     }
 
     /// A left: symbols, variables and literals. It is copied, and the copy tells the places of a
@@ -115,6 +176,8 @@ impl Term<'_> {
             } else if is_ground_node(node) {
                 pending += child_count(tag);
                 copy.push([tag, datum]);
+            } else if MAPS && tag == DICTIONARY {
+                copy.extend(self.dictionary()?);
             } else {
                 return None;
             }
@@ -128,16 +191,19 @@ impl Term<'_> {
         let mut pending = places;
         while pending > 0 {
             let node = self.next()?;
-            if !is_ground_node(node) {
+            if is_ground_node(node) {
+                pending += child_count(node[0]);
+            } else if MAPS && node[0] == DICTIONARY {
+                self.dictionary()?;
+            } else {
                 return None;
             }
-            pending += child_count(node[0]);
             pending -= 1;
         }
         Some(())
     }
 
-    /// The expressions that so many places wait for: below a symbol all is ground.
+    /// The expressions that so many places wait for: below a symbol or a dictionary all is ground.
     fn expressions(&mut self, places: usize) -> Option<()> {
         let mut pending = places;
         while pending > 0 {
@@ -145,8 +211,11 @@ impl Term<'_> {
             let &[tag, datum] = node;
             match tag {
                 VARIABLE => self.variable(datum)?,
-                CALL => pending += argument_count(datum)?,
+                CALL => pending += argument_count::<MAPS>(datum)?,
                 _ if is_ground_node(node) => self.ground(child_count(tag))?,
+                DICTIONARY if MAPS => {
+                    self.dictionary()?;
+                }
                 _ => return None,
             }
             pending -= 1;
@@ -154,9 +223,9 @@ impl Term<'_> {
         Some(())
     }
 
-    /// A right: symbols with expressions at the leaves. Counts the successor's nodes, without
-    /// those of variables, which are listed instead.
-    fn right(&mut self, copies: &mut Vec<u8>) -> Option<usize> {
+    /// A right: symbols with expressions at the leaves, or updates. Counts the successor's nodes,
+    /// without those of variables, lookups and updates, which are listed instead.
+    fn right(&mut self, copies: &mut Vec<u16>) -> Option<usize> {
         let mut pending = 1;
         let mut fixed = 0;
         while pending > 0 {
@@ -166,11 +235,17 @@ impl Term<'_> {
             match tag {
                 VARIABLE => {
                     self.variable(datum)?;
-                    copies.push(datum as u8);
+                    copies.push(datum as u16);
                     fixed -= 1;
                 }
-                CALL => self.expressions(argument_count(datum)?)?,
+                CALL if MAPS && (datum == LOOKUP || datum == UPDATE) => {
+                    copies.push((limits::VARIABLES + self.at - 1) as u16);
+                    self.expressions(if datum == LOOKUP { 2 } else { 3 })?;
+                    fixed -= 1;
+                }
+                CALL => self.expressions(argument_count::<MAPS>(datum)?)?,
                 _ if is_ground_node(node) => pending += child_count(tag),
+                DICTIONARY if MAPS => fixed += self.dictionary()?.len() - 1,
                 _ => return None,
             }
             pending -= 1;
@@ -180,12 +255,12 @@ impl Term<'_> {
 }
 
 /// A walk over the rules.
-struct Walk<'a> {
+struct Walk<'a, const MAPS: bool> {
     nodes: &'a [Node],
     at: usize,
 }
 
-impl<'a> Walk<'a> {
+impl<'a, const MAPS: bool> Walk<'a, MAPS> {
     fn rule(&mut self, rules: &mut Rules<'a>) -> Option<Rule<'a>> {
         let &[action, condition_count] = self.nodes.get(self.at)?;
         if !in_range(action, limits::ACTIONS) || !in_range(condition_count, limits::CONDITIONS + 1)
@@ -219,14 +294,10 @@ impl<'a> Walk<'a> {
     /// One term of at most 512 nodes, with its variables.
     fn term(
         &mut self,
-        walk: impl FnOnce(&mut Term<'a>) -> Option<()>,
+        walk: impl FnOnce(&mut Term<'a, MAPS>) -> Option<()>,
     ) -> Option<(&'a [Node], u16)> {
         let rest = &self.nodes[self.at..];
-        let mut term = Term {
-            nodes: &rest[..rest.len().min(limits::TERM_NODES)],
-            at: 0,
-            variables: 0,
-        };
+        let mut term = Term::new(&rest[..rest.len().min(limits::TERM_NODES)]);
         walk(&mut term)?;
         self.at += term.at;
         Some((&rest[..term.at], term.variables))

@@ -5,8 +5,14 @@
 //! configuration is checked again. A run allocates nothing once it has the index: it writes to its two
 //! lent buffers in turn. A replay keeps its stack in the work area, and a set of the configurations
 //! that it has searched in vain.
+//!
+//! If neither the table nor the first configuration has a dictionary, and no function on them is
+//! called, none ever comes up. So everything is compiled twice: with `MAPS`, for where there may be
+//! dictionaries, and without, where a tag says all about its node. A check without `MAPS` goes first,
+//! and what it refuses is checked again with them.
 
 mod check;
+mod dictionary;
 mod evaluate;
 mod routines;
 mod rules;
@@ -21,12 +27,21 @@ const BOOL: i64 = 1;
 const INT: i64 = 2;
 const VARIABLE: i64 = 3;
 const CALL: i64 = 4;
+/// The datum is the entry count.
+const DICTIONARY: i64 = 5;
 /// A symbol's tag is this and its child count.
 const SYMBOL: i64 = 8;
-/// In an indexed left: a variable that an earlier place has bound.
-const BOUND: i64 = 5;
-/// In an indexed left: a new variable at the last node.
-const LAST: i64 = 6;
+/// In an indexed left: a variable that an earlier place has bound. No node has this tag.
+const BOUND: i64 = 6;
+/// In an indexed left: a new variable at the last node. No node has this tag.
+const LAST: i64 = 7;
+
+/// The code of `map.empty()`, the first of the functions on dictionaries.
+const EMPTY: i64 = 15;
+/// The code of `map.lookup(D,K)`.
+const LOOKUP: i64 = 16;
+/// The code of `map.update(D,K,V)`.
+const UPDATE: i64 = 17;
 
 /// The words as nodes. An odd word at the end is left out.
 fn nodes(words: &[i64]) -> &[Node] {
@@ -38,29 +53,40 @@ fn nodes_mut(words: &mut [i64]) -> &mut [Node] {
     words.as_chunks_mut().0
 }
 
-/// The child count of a node that is no call: tags 8 to 15 say it, all others have none.
+/// The child count of a node that is no call and no dictionary: tags 8 to 15 say it, all others
+/// have none.
 #[inline(always)]
 fn child_count(tag: i64) -> usize {
     ((tag & 7) & -(tag >> 3)) as usize
 }
 
+/// The child count of a node that is no call.
+#[inline(always)]
+fn children<const MAPS: bool>([tag, datum]: Node) -> usize {
+    if MAPS && tag == DICTIONARY {
+        2 * datum as usize
+    } else {
+        child_count(tag)
+    }
+}
+
 /// Where the ground term ends that starts at this place of well formed nodes.
 #[inline(always)]
-fn term_end(nodes: &[Node], start: usize) -> usize {
-    match child_count(nodes[start][0]) {
+fn term_end<const MAPS: bool>(nodes: &[Node], start: usize) -> usize {
+    match children::<MAPS>(nodes[start]) {
         0 => start + 1,
-        pending => skip_terms(nodes, start + 1, pending),
+        pending => skip_terms::<MAPS>(nodes, start + 1, pending),
     }
 }
 
 /// Where so many terms end that follow each other from this place on. There is one at least.
-fn skip_terms(nodes: &[Node], start: usize, terms: usize) -> usize {
+fn skip_terms<const MAPS: bool>(nodes: &[Node], start: usize, terms: usize) -> usize {
     let mut at = start;
     let mut pending = terms;
     loop {
         // One test for both ends of the range: no term, or at least a block of them.
         while pending.wrapping_sub(1) < BLOCK - 1 {
-            pending = pending - 1 + child_count(nodes[at][0]);
+            pending = pending - 1 + children::<MAPS>(nodes[at]);
             at += 1;
         }
         if pending == 0 {
@@ -69,7 +95,10 @@ fn skip_terms(nodes: &[Node], start: usize, terms: usize) -> usize {
         // Each node ends one term at most, so a whole block is there.
         let block = &nodes[at..at + BLOCK];
         pending -= BLOCK;
-        pending += block.iter().map(|node| child_count(node[0])).sum::<usize>();
+        pending += block
+            .iter()
+            .map(|&node| children::<MAPS>(node))
+            .sum::<usize>();
         at += BLOCK;
     }
 }

@@ -1,6 +1,6 @@
 //! The routines over slices.
 
-use super::check::{index, is_configuration};
+use super::check::{self, Configuration, index};
 use super::rules::{Bindings, Rules};
 use super::{Node, nodes, nodes_mut};
 use crate::answer::{Check, Refusal, Replay, Run, Step};
@@ -17,10 +17,9 @@ pub fn check_table(table: &[i64]) -> Check {
 
 /// Whether the words are a well formed configuration.
 pub fn check_configuration(configuration: &[i64]) -> Check {
-    if is_configuration(configuration) {
-        Check::Good
-    } else {
-        Check::Refused(Refusal::BadConfiguration)
+    match check::configuration(configuration) {
+        Configuration::Malformed => Check::Refused(Refusal::BadConfiguration),
+        Configuration::Plain | Configuration::WithMaps => Check::Good,
     }
 }
 
@@ -30,10 +29,10 @@ pub fn step(table: &[i64], configuration: &[i64], out: &mut [i64]) -> Step {
         Ok(both) => both,
         Err(refusal) => return Step::Refused(refusal),
     };
-    let mut bindings = Bindings::default();
-    match rules.first(configuration, &mut bindings) {
-        Some(rule) => write_step(&rules, rule, configuration, &bindings, out),
-        None => Step::Stuck,
+    if rules.has_maps {
+        first_step::<true>(&rules, configuration, out)
+    } else {
+        first_step::<false>(&rules, configuration, out)
     }
 }
 
@@ -43,12 +42,10 @@ pub fn step_by_rule(table: &[i64], configuration: &[i64], rule: usize, out: &mut
         Ok(both) => both,
         Err(refusal) => return Step::Refused(refusal),
     };
-    let mut bindings = Bindings::default();
-    match rules.rules.get(rule) {
-        Some(named) if rules.applies(named, configuration, &mut bindings) => {
-            write_step(&rules, rule, configuration, &bindings, out)
-        }
-        _ => Step::Stuck,
+    if rules.has_maps {
+        named_step::<true>(&rules, configuration, rule, out)
+    } else {
+        named_step::<false>(&rules, configuration, rule, out)
     }
 }
 
@@ -71,7 +68,11 @@ pub fn run(
     }
     let out = nodes_mut(&mut out[..2 * limit]);
     let spare = nodes_mut(&mut spare[..2 * limit]);
-    let (answer, steps, size) = run_between(&rules, initial, budget, out, spare);
+    let (answer, steps, size) = if rules.has_maps {
+        run_between::<true>(&rules, initial, budget, out, spare)
+    } else {
+        run_between::<false>(&rules, initial, budget, out, spare)
+    };
     if steps % 2 == 1 {
         out[..size].copy_from_slice(&spare[..size]);
     }
@@ -100,7 +101,11 @@ pub fn replay(
         return Replay::Refused(Refusal::ShortBuffer);
     }
     let frames = nodes_mut(&mut work[..work_len]);
-    let answer = search(&rules, initial, log, limit, frames);
+    let answer = if rules.has_maps {
+        search::<true>(&rules, initial, log, limit, frames)
+    } else {
+        search::<false>(&rules, initial, log, limit, frames)
+    };
     if answer == Replay::Reproduced {
         write_found(frames, limit, &mut choices[..log.len()], nodes_mut(out));
     }
@@ -108,16 +113,19 @@ pub fn replay(
     answer
 }
 
+/// The rules of a table, which say whether there may be dictionaries, and the configuration.
+#[inline(always)]
 fn check_both<'a>(
     table: &'a [i64],
     configuration: &'a [i64],
 ) -> Result<(Rules<'a>, &'a [Node]), Refusal> {
-    let rules = index(table).ok_or(Refusal::BadTable)?;
-    if is_configuration(configuration) {
-        Ok((rules, nodes(configuration)))
-    } else {
-        Err(Refusal::BadConfiguration)
+    let mut rules = index(table).ok_or(Refusal::BadTable)?;
+    match check::configuration(configuration) {
+        Configuration::Malformed => return Err(Refusal::BadConfiguration),
+        Configuration::Plain => {}
+        Configuration::WithMaps => rules.has_maps = true,
     }
+    Ok((rules, nodes(configuration)))
 }
 
 /// The refusals 1 to 4 of a run and a replay, or what they start from.
@@ -137,8 +145,35 @@ fn check_all<'a>(
     Ok((rules, initial, limit as usize))
 }
 
+/// The step by the lowest rule that applies.
+#[inline(never)]
+fn first_step<const MAPS: bool>(rules: &Rules, configuration: &[Node], out: &mut [i64]) -> Step {
+    let mut bindings = Bindings::default();
+    match rules.first::<MAPS>(configuration, &mut bindings) {
+        Some(rule) => write_step::<MAPS>(rules, rule, configuration, &bindings, out),
+        None => Step::Stuck,
+    }
+}
+
+/// The step by the rule of that number, if it applies.
+#[inline(never)]
+fn named_step<const MAPS: bool>(
+    rules: &Rules,
+    configuration: &[Node],
+    rule: usize,
+    out: &mut [i64],
+) -> Step {
+    let mut bindings = Bindings::default();
+    match rules.rules.get(rule) {
+        Some(named) if rules.applies::<MAPS>(named, configuration, &mut bindings) => {
+            write_step::<MAPS>(rules, rule, configuration, &bindings, out)
+        }
+        _ => Step::Stuck,
+    }
+}
+
 /// Writes the successor by a rule that applies, if it fits.
-fn write_step(
+fn write_step<const MAPS: bool>(
     rules: &Rules,
     number: usize,
     configuration: &[Node],
@@ -146,11 +181,12 @@ fn write_step(
     out: &mut [i64],
 ) -> Step {
     let rule = &rules.rules[number];
-    let size = rules.size(rule, bindings);
+    let plan = rules.plan::<MAPS>(rule, configuration, bindings);
+    let size = plan.size;
     if size > limits::CONFIGURATION_NODES.min(out.len() / 2) {
         return Step::OverLimit;
     }
-    rule.write(configuration, bindings, nodes_mut(out));
+    rule.write::<MAPS>(configuration, bindings, plan, nodes_mut(out));
     Step::Stepped {
         rule: number as u8,
         action: rule.action,
@@ -160,7 +196,8 @@ fn write_step(
 
 /// Runs between two buffers as long as the limit. Gives the answer, the steps and the size of the
 /// last configuration, which stands in `out` after an even number of steps, else in `spare`.
-fn run_between(
+#[inline(never)]
+fn run_between<const MAPS: bool>(
     rules: &Rules,
     initial: &[Node],
     budget: u64,
@@ -174,18 +211,19 @@ fn run_between(
     let (mut from, mut to) = (out, spare);
     loop {
         let configuration = &from[..size];
-        let Some(number) = rules.first(configuration, &mut bindings) else {
+        let Some(number) = rules.first::<MAPS>(configuration, &mut bindings) else {
             return (Run::Stuck { steps }, steps, size);
         };
         if steps == budget {
             return (Run::Spent { steps }, steps, size);
         }
         let rule = &rules.rules[number];
-        let successor = rules.size(rule, &bindings);
+        let plan = rules.plan::<MAPS>(rule, configuration, &bindings);
+        let successor = plan.size;
         if successor > to.len() {
             return (Run::OverLimit { steps }, steps, size);
         }
-        rule.write(configuration, &bindings, &mut to[..successor]);
+        rule.write::<MAPS>(configuration, &bindings, plan, &mut to[..successor]);
         (from, to) = (to, from);
         size = successor;
         steps += 1;
@@ -199,7 +237,8 @@ const SHORT: usize = 3;
 /// a configuration in as many nodes as the limit, then one node with its size and the lowest rule
 /// that was not tried on it. If the log is reproduced, the stack is the path. A configuration from
 /// which the rest of the log was tried in vain is remembered with its depth, and not entered again.
-fn search(
+#[inline(never)]
+fn search<const MAPS: bool>(
     rules: &Rules,
     initial: &[Node],
     log: &[u16],
@@ -217,7 +256,8 @@ fn search(
         let (configuration, state) = frame.split_at_mut(limit);
         let configuration = &configuration[..state[0][0] as usize];
         let from = state[0][1] as usize;
-        let Some(number) = rules.first_with(action, from, configuration, &mut bindings) else {
+        let Some(number) = rules.first_with::<MAPS>(action, from, configuration, &mut bindings)
+        else {
             if depth == 0 {
                 return if over {
                     Replay::OverLimit
@@ -233,12 +273,13 @@ fn search(
         };
         state[0][1] = number as i64 + 1;
         let rule = &rules.rules[number];
-        let size = rules.size(rule, &bindings);
+        let plan = rules.plan::<MAPS>(rule, configuration, &bindings);
+        let size = plan.size;
         if size > limit {
             over = true;
             continue;
         }
-        rule.write(configuration, &bindings, &mut behind[..size]);
+        rule.write::<MAPS>(configuration, &bindings, plan, &mut behind[..size]);
         let worth = !in_vain.is_empty() && log.len() - depth > SHORT + 1;
         if worth && in_vain.contains(&(depth + 1, behind[..size].to_vec())) {
             continue;

@@ -1,7 +1,7 @@
 //! The indexed table: matching, conditions and successors.
 
-use super::evaluate::Expressions;
-use super::{BOUND, CALL, LAST, Node, SYMBOL, VARIABLE, term_end};
+use super::evaluate::{Expressions, Made, copy};
+use super::{BOUND, CALL, LAST, LOOKUP, Node, SYMBOL, VARIABLE, term_end};
 use crate::limits;
 use std::ops::Range;
 
@@ -12,9 +12,10 @@ pub(super) struct Rule<'a> {
     pub(super) left: Range<usize>,
     pub(super) right: &'a [Node],
     pub(super) conditions: &'a [Node],
-    /// The nodes of a successor that come from no variable's part.
+    /// The nodes of a successor that come from no variable's part, no lookup and no update.
     pub(super) fixed: usize,
-    /// Where [`Rules::copies`] lists the variables of the right that stand under no call.
+    /// Where [`Rules::copies`] lists the variables, lookups and updates of the right that stand
+    /// under no call.
     pub(super) copies: Range<usize>,
 }
 
@@ -26,7 +27,19 @@ pub(super) struct Rules<'a> {
     actions: Vec<u16>,
     /// All lefts, copied: the tag of a variable says whether its place is the first.
     pub(super) lefts: Vec<Node>,
-    pub(super) copies: Vec<u8>,
+    /// Numbers of variables, and from 16 on the places of lookups and updates in their rights.
+    pub(super) copies: Vec<u16>,
+    /// Whether there may be dictionaries.
+    pub(super) has_maps: bool,
+}
+
+/// What is known of a successor before it is written.
+pub(super) struct Plan<'a> {
+    /// Its nodes.
+    pub(super) size: usize,
+    /// The value of the right's first lookup or update, and the place behind that, so that they are
+    /// not worked out again. (Most rights have one at most.)
+    first: Option<(Made<'a>, usize)>,
 }
 
 /// A left that begins with a variable.
@@ -73,12 +86,12 @@ impl Bindings {
 
     /// Matches an indexed left against the configuration in one walk.
     #[inline(always)]
-    fn matches(&mut self, left: &[Node], configuration: &[Node]) -> bool {
+    fn matches<const MAPS: bool>(&mut self, left: &[Node], configuration: &[Node]) -> bool {
         let mut at = 0;
         for &[tag, datum] in left {
             match tag {
                 VARIABLE => {
-                    let end = term_end(configuration, at);
+                    let end = term_end::<MAPS>(configuration, at);
                     self.set(datum, at, end);
                     at = end;
                 }
@@ -104,16 +117,19 @@ impl Bindings {
 }
 
 impl<'a> Rules<'a> {
-    pub(super) fn with_capacity(count: usize) -> Rules<'a> {
+    #[inline(always)]
+    pub(super) fn with_capacity(count: usize, has_maps: bool) -> Rules<'a> {
         Rules {
             rules: Vec::with_capacity(count),
             keys: Vec::with_capacity(count),
             actions: Vec::with_capacity(count),
             lefts: Vec::with_capacity(4 * count),
             copies: Vec::with_capacity(4 * count),
+            has_maps,
         }
     }
 
+    #[inline(always)]
     pub(super) fn push(&mut self, rule: Rule<'a>) {
         self.keys.push(key(self.lefts[rule.left.start]));
         self.actions.push(rule.action);
@@ -122,23 +138,27 @@ impl<'a> Rules<'a> {
 
     /// Whether a rule's left matches and its conditions hold.
     #[inline(always)]
-    pub(super) fn applies(
+    pub(super) fn applies<const MAPS: bool>(
         &self,
         rule: &Rule,
         configuration: &[Node],
         bindings: &mut Bindings,
     ) -> bool {
-        bindings.matches(&self.lefts[rule.left.clone()], configuration)
-            && conditions_hold(rule.conditions, configuration, bindings)
+        bindings.matches::<MAPS>(&self.lefts[rule.left.clone()], configuration)
+            && conditions_hold::<MAPS>(rule.conditions, configuration, bindings)
     }
 
     /// The lowest rule that applies; `bindings` says what its variables stand for.
     #[inline(always)]
-    pub(super) fn first(&self, configuration: &[Node], bindings: &mut Bindings) -> Option<usize> {
+    pub(super) fn first<const MAPS: bool>(
+        &self,
+        configuration: &[Node],
+        bindings: &mut Bindings,
+    ) -> Option<usize> {
         let key = key(configuration[0]);
         for (number, &left) in self.keys.iter().enumerate() {
             if (left == key || left == ANY)
-                && self.applies(&self.rules[number], configuration, bindings)
+                && self.applies::<MAPS>(&self.rules[number], configuration, bindings)
             {
                 return Some(number);
             }
@@ -148,7 +168,7 @@ impl<'a> Rules<'a> {
 
     /// The lowest rule from this number on that carries the action and applies.
     #[inline(always)]
-    pub(super) fn first_with(
+    pub(super) fn first_with<const MAPS: bool>(
         &self,
         action: u16,
         from: usize,
@@ -158,7 +178,7 @@ impl<'a> Rules<'a> {
         let mut number = from;
         while let Some(skipped) = self.actions[number..].iter().position(|&a| a == action) {
             number += skipped;
-            if self.applies(&self.rules[number], configuration, bindings) {
+            if self.applies::<MAPS>(&self.rules[number], configuration, bindings) {
                 return Some(number);
             }
             number += 1;
@@ -166,26 +186,56 @@ impl<'a> Rules<'a> {
         None
     }
 
-    /// The nodes of a successor, once the rule's variables are bound.
+    /// What is known of a successor before it is written, once the rule's variables are bound.
     #[inline(always)]
-    pub(super) fn size(&self, rule: &Rule, bindings: &Bindings) -> usize {
+    pub(super) fn plan<'b, const MAPS: bool>(
+        &self,
+        rule: &'b Rule,
+        configuration: &'b [Node],
+        bindings: &'b Bindings,
+    ) -> Plan<'b> {
         let mut size = rule.fixed;
-        for &variable in &self.copies[rule.copies.clone()] {
-            size += bindings.end(variable as i64) - bindings.start(variable as i64);
+        let mut first = None;
+        for &copied in &self.copies[rule.copies.clone()] {
+            if MAPS && copied as usize >= limits::VARIABLES {
+                let right = rule.right_expressions::<MAPS>(configuration, bindings);
+                let (made, end) = right.made(copied as usize - limits::VARIABLES);
+                size += made.size();
+                first = first.or(Some((made, end)));
+            } else {
+                size += bindings.end(copied as i64) - bindings.start(copied as i64);
+            }
         }
-        size
+        Plan { size, first }
     }
 }
 
 impl Rule<'_> {
-    /// Writes the successor from the start of `out`, which has room for it.
     #[inline(always)]
-    pub(super) fn write(&self, configuration: &[Node], bindings: &Bindings, out: &mut [Node]) {
-        let right = Expressions {
+    fn right_expressions<'b, const MAPS: bool>(
+        &'b self,
+        configuration: &'b [Node],
+        bindings: &'b Bindings,
+    ) -> Expressions<'b, MAPS> {
+        Expressions {
             code: self.right,
             configuration,
             bindings,
-        };
+        }
+    }
+
+    /// Writes the successor from the start of `out`, which has room for it. A literal dictionary's
+    /// nodes are written like any other's.
+    #[inline(always)]
+    pub(super) fn write<const MAPS: bool>(
+        &self,
+        configuration: &[Node],
+        bindings: &Bindings,
+        plan: Plan,
+        out: &mut [Node],
+    ) {
+        let right = self.right_expressions::<MAPS>(configuration, bindings);
+        let mut known = plan.first;
         let mut from = 0;
         let mut to = 0;
         while let Some(&[tag, datum]) = self.right.get(from) {
@@ -195,6 +245,12 @@ impl Rule<'_> {
                     let part = bindings.part(datum, configuration);
                     copy(part, &mut out[to..to + part.len()]);
                     to += part.len();
+                    continue;
+                }
+                CALL if MAPS && datum >= LOOKUP => {
+                    let (made, end) = known.take().unwrap_or_else(|| right.made(from - 1));
+                    to += made.write(&mut out[to..]);
+                    from = end;
                     continue;
                 }
                 CALL => {
@@ -209,19 +265,13 @@ impl Rule<'_> {
     }
 }
 
-/// Copies a part. Most are one node, for which a call of the system's copy is slow.
 #[inline(always)]
-fn copy(part: &[Node], out: &mut [Node]) {
-    if let ([from], [to]) = (part, &mut *out) {
-        *to = *from;
-    } else {
-        out.copy_from_slice(part);
-    }
-}
-
-#[inline(always)]
-fn conditions_hold(conditions: &[Node], configuration: &[Node], bindings: &Bindings) -> bool {
-    let sides = Expressions {
+fn conditions_hold<const MAPS: bool>(
+    conditions: &[Node],
+    configuration: &[Node],
+    bindings: &Bindings,
+) -> bool {
+    let sides = Expressions::<MAPS> {
         code: conditions,
         configuration,
         bindings,

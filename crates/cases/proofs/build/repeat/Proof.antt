@@ -7,10 +7,10 @@ use Rattle.cases.proofs.build.repeat.Statement.{statement}
 use Rattle.cases.proofs.build.repeat.Tie as tie
 
 abbrev Inv-loop : tie.InvT-loop
-Inv-loop words₀ start end total from₀ at₀ words from at = (length words ≡ length words₀) × (from ≤ at) × (start ≤ at)
+Inv-loop words₀ start end total rises from₀ at₀ last₀ words from at last = (length words ≡ length words₀) × (from ≤ at) × (start ≤ at)
 
 abbrev μ-loop : tie.MeasureT-loop
-μ-loop words₀ start end total from₀ at₀ words from at = length words₀ - at
+μ-loop words₀ start end total rises from₀ at₀ last₀ words from at last = length words₀ - at
 
 returns : tie.Need-returns Inv-loop μ-loop
 returns c = search needs
@@ -27,11 +27,8 @@ same-length c = search needs
 returns-2 : tie.Need-returns-2 Inv-loop μ-loop
 returns-2 c = search needs
 
-word-requires : tie.Need-word-requires Inv-loop μ-loop
-word-requires c κs = search needs
-
-word-requires-2 : tie.Need-word-requires-2 Inv-loop μ-loop
-word-requires-2 c κs = search needs
+again-requires : tie.Need-again-requires Inv-loop μ-loop
+again-requires c κs = search needs
 
 add-from : tie.Need-add-from Inv-loop μ-loop
 add-from c = search needs
@@ -62,8 +59,7 @@ repeat-spec =
     sub-if2
     same-length
     returns-2
-    word-requires
-    word-requires-2
+    again-requires
     add-from
     add-at
     loop-less

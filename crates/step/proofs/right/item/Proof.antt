@@ -24,12 +24,12 @@ word-requires c κs = search needs
 evaluate-requires : tie.Need-evaluate-requires
 evaluate-requires c κs =
     let s = c .before .before in
-    evaluate-needs (s .args .table .now) (s .args .configuration .now) (s .args .starts .now) (s .args .ends .now) (s .args .at) (s .args .end) (s .pre .1) (four c) (s .pre .0)
+    evaluate-needs (s .args .table .now) (s .args .configuration .now) (s .args .starts .now) (s .args .ends .now) (s .args .at) (s .args .end) (s .pre .1) (four c) (s .pre .2) (s .pre .0)
 
 returns : tie.Need-returns
 returns c =
     let s = c .before .before .before in
-    evaluated-is (s .args .table .now) (s .args .configuration .now) (s .args .starts .now) (s .args .ends .now) (s .args .at) (s .args .end) (s .pre .1) (four (c .before)) (c .evaluate .result) (c .evaluate .ensures)
+    evaluated-is (s .args .table .now) (s .args .configuration .now) (s .args .starts .now) (s .args .ends .now) (s .args .at) (s .args .end) (s .pre .1) (four (c .before)) (s .pre .2) (c .evaluate .result) (c .evaluate .ensures)
 
 piece-requires : tie.Need-piece-requires
 piece-requires c κs =

@@ -28,14 +28,14 @@ loop-less c =
     let x = c .before .before .before in
     let l = x .before in
     let s = l .before in
-    omega (arith, x .loop-test .taken, writing-forward (s .args .table .now) (s .args .configuration .now) (s .args .starts .now) (s .args .ends .now) (s .args .at) (s .args .end) (s .args .out .now) (l .loop .i) (l .loop .o) (l .loop .out) (l .loop .inv .1) _ (c .before .write-item .ensures .item) (s .pre .rest))
+    omega (arith, x .loop-test .taken, writing-forward (s .args .table .now) (s .args .configuration .now) (s .args .starts .now) (s .args .ends .now) (s .args .at) (s .args .end) (s .args .out .now) (l .loop .i) (l .loop .o) (l .loop .out) (l .loop .inv .1) _ _ (c .before .write-item .ensures .item) (s .pre .rest))
 
 loop-again : tie.Need-loop-again Inv-loop μ-loop
 loop-again c =
     let w = c .before .write-item in
     let l = c .before .before .before .before in
     let s = l .before in
-    (w .kept .1 .1 .1 .1 .1 .1 .0 ∙ l .loop .inv .0, writing-on (s .args .table .now) (s .args .configuration .now) (s .args .starts .now) (s .args .ends .now) (s .args .at) (s .args .end) (s .args .out .now) (l .loop .i) (l .loop .o) (l .loop .out) (l .loop .inv .1) _ (w .ensures .item) (w .result .place) (w .last .1 .1 .1 .1 .1 .1 .0) (w .ensures .puts .leaves) (w .ensures .puts .next))
+    (w .kept .1 .1 .1 .1 .1 .1 .0 ∙ l .loop .inv .0, writing-on (s .args .table .now) (s .args .configuration .now) (s .args .starts .now) (s .args .ends .now) (s .args .at) (s .args .end) (s .args .out .now) (l .loop .i) (l .loop .o) (l .loop .out) (l .loop .inv .1) _ _ (w .ensures .item) (w .result .place) (w .last .1 .1 .1 .1 .1 .1 .0) (w .ensures .puts .leaves) (w .ensures .puts .next))
 
 same-length : tie.Need-same-length Inv-loop μ-loop
 same-length c = c .before .loop .inv .0

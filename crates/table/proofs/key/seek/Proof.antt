@@ -1,14 +1,14 @@
 -- `seek` meets its contract. The invariant: every rule from the first position up to this one was passed over.
-use mathlib.Core.Path.{_≡_, _∙_, ap, ap₂}
+use mathlib.Core.Path.{_≡_, _∙_, ap₂}
 use mathlib.Core.Logic.{inl, inr}
-use Prim.Native.Nat.{_-_, _≤_, _<_}
+use Prim.Native.Nat.{_-_, _≤_}
 use native.Mathlib.Omega.{arith}
 use lib.IntN.{pos}
-use lib.ListN.{length, getD}
+use lib.ListN.{getD}
 use mir.Val.{SFits}
 use mir.Syntax.{w64}
 use borrow.Author.Needs.{needs}
-use Rattle.minuska.specs.Bridge.Place.{keyOf, Accepted, RootsPassed}
+use Rattle.minuska.specs.Bridge.Place.{keyOf, RootsPassed}
 use Rattle.table.proofs.NumberLaw.{via₂}
 use Rattle.table.proofs.KeyLaw.{root-there, position-small, none-passed, stops-here, passes}
 use Rattle.table.proofs.key.seek.Statement.{statement}

@@ -1,6 +1,6 @@
 -- `call` meets its contract.
 use mathlib.Core.Path.{_≡_, sym, _∙_, ap, subst}
-use Prim.Native.Nat.{_<_}
+use Prim.Native.Nat.{ℕ, _<_}
 use native.Mathlib.Omega.{arith}
 use borrow.Author.Needs.{needs}
 use lib.IntN.{pos}
@@ -24,19 +24,22 @@ number : (c : tie.After-natural) → c .natural .result ≡ naturalOf (c .before
 number c = via naturalOf (c .before .fits .d) (c .natural .ensures)
 
 returns : tie.Need-returns
-returns c = let n = number (c .before) in no-call (c .before .before .args .d) (omega arith)
+returns c = record { none = λ h f. let n = number (c .before) in let t = c .if1 .taken in no-call (c .before .before .args .d) (omega arith) }
 
 -- the code is a function's
 code : (c : tie.Else1) → naturalOf (c .before .before .args .d) < length functions
-code c = let n = number (c .before) in let h = c .if1 .left in omega arith
+code c = let n = number (c .before) in let h = c .if1 .left in let p = c .before .before .pre in omega arith
 
 children-requires : tie.Need-children-requires
 children-requires c κs = let s = c .before .before in subst (NodeWords (pos callTag)) (sym (toZ-ofZ (s .fits .d))) (call-words (s .args .d) (code c))
 
 returns-2 : tie.Need-returns-2
 returns-2 c =
-    let s = c .before .before .before in
-    ap N.Call (via (childrenOf (pos callTag)) (s .fits .d) (c .children .ensures)) ∙ a-call (s .args .d) (code (c .before))
+    let s = c .before .before .before in (
+      ap (λ (n : ℕ). N.Call n (c .before .before .natural .result)) (via (childrenOf (pos callTag)) (s .fits .d) (c .children .ensures)) ∙
+          (ap (N.Call (childrenOf (pos callTag) (s .args .d))) (number (c .before .before)) ∙ a-call (s .args .d) (code (c .before))),
+      c .before .if1 .left,
+    )
 
 pub call-spec : {M : Type 1} → statement M
 call-spec = tie.close (tie.spec natural-requires returns children-requires returns-2)

@@ -1,3 +1,4 @@
+-- `rule_parts` meets its contract.
 use mathlib.Core.Path.{_≡_, refl, sym, _∙_, ap, subst⁻¹}
 use mathlib.Core.Bool.{Bool}
 use mathlib.Core.Option.{some}
@@ -9,6 +10,7 @@ use lib.ListN.{length, getD}
 use mir.Val.{SFits}
 use mir.Syntax.{w64}
 use Rattle.table.specs.Level.{Left, Right}
+use Rattle.table.specs.Node.{unseen}
 use Rattle.table.specs.Number.{naturalOf}
 use Rattle.table.specs.Walk.{placed, partEnd, partSeen, PartContract}
 use Rattle.table.specs.Size.{placeOf}
@@ -18,7 +20,7 @@ use Rattle.table.proofs.NumberLaw.{via}
 use Rattle.table.proofs.PartLaw.{placed-at, placed-nowhere}
 use borrow.Author.Needs.{needs}
 use Rattle.table.proofs.KeepLaw.{part-keeps}
-use Rattle.table.proofs.RuleLaw.{Head, unseen, rule-short, rule-action, rule-count, rule-head, rule-left, rule-right, rule-conditions, rule-good}
+use Rattle.table.proofs.RuleLaw.{Head, rule-short, rule-action, rule-count, rule-head, rule-left, rule-right, rule-conditions, rule-good}
 use Rattle.table.proofs.rule.rule_parts.Statement.{statement}
 use Rattle.table.proofs.rule.rule_parts.Tie as tie
 
@@ -40,21 +42,21 @@ head c =
     (rule-head (c .before .before .before .before .before .before .before .before .args .table .now) (c .before .before .before .before .before .before .before .before .args .at) (room (c .before .before .before .before .before .before)) (c .before .before .before .before .before .word .result) (c .before .before .word2 .result) (c .before .before .before .before .before .word .ensures) (c .before .before .word2 .ensures) (omega arith) (omega arith))
 
 -- the left, and the flags after it
-left-contract : (c : tie.After-side-part) → PartContract (c .before .before .before .before .before .before .before .before .before .before .args .table .now) (leftFrom (c .before .before .before .before .before .before .before .before .before .before .args .at)) Left unseen (c .side-part .last .1 .1 .1 .0) (placeOf (c .side-part .result))
-left-contract c = c .side-part .ensures .part
+left-contract : (c : tie.After-left-part) → PartContract (c .before .before .before .before .before .before .before .before .before .before .args .table .now) (leftFrom (c .before .before .before .before .before .before .before .before .before .before .args .at)) Left unseen (c .left-part .last .1 .1 .0) (placeOf (c .left-part .result))
+left-contract c = c .left-part .ensures .part
 
 left-at : (c : tie.After-known-told) → partEnd (c .before .before .before .before .before .before .before .before .before .before .before .before .before .args .table .now) (leftFrom (c .before .before .before .before .before .before .before .before .before .before .before .before .before .args .at)) Left unseen ≡ some (c .before .right .given .0 .0)
 left-at c = placed-at (c .before .right .given .0 .0) (partEnd (c .before .before .before .before .before .before .before .before .before .before .before .before .before .args .table .now) (leftFrom (c .before .before .before .before .before .before .before .before .before .before .before .before .before .args .at)) Left unseen) (sym (ap placeOf (c .before .right .given .1)) ∙ left-contract (c .before .before .before) .answer)
 
 -- the right, by these flags, which it keeps
-right-is : (c : tie.After-side-part2) → placeOf (c .side-part2 .result) ≡ placed (partEnd (c .before .before .before .before .before .before .before .before .before .before .before .before .before .before .before .args .table .now) (c .before .before .before .right .given .0 .0) Right (partSeen (c .before .before .before .before .before .before .before .before .before .before .before .before .before .before .before .args .table .now) (leftFrom (c .before .before .before .before .before .before .before .before .before .before .before .before .before .before .before .args .at)) Left unseen))
-right-is c = c .side-part2 .ensures .part .answer ∙ ap (λ (s : List Bool). placed (partEnd (c .before .before .before .before .before .before .before .before .before .before .before .before .before .before .before .args .table .now) (c .before .before .before .right .given .0 .0) Right s)) (left-contract (c .before .before .before .before .before) .leaves)
+right-is : (c : tie.After-right-part) → placeOf (c .right-part .result) ≡ placed (partEnd (c .before .before .before .before .before .before .before .before .before .before .before .before .before .before .before .args .table .now) (c .before .before .before .right .given .0 .0) Right (partSeen (c .before .before .before .before .before .before .before .before .before .before .before .before .before .before .before .args .table .now) (leftFrom (c .before .before .before .before .before .before .before .before .before .before .before .before .before .before .before .args .at)) Left unseen))
+right-is c = c .right-part .ensures .part .answer ∙ ap (λ (s : List Bool). placed (partEnd (c .before .before .before .before .before .before .before .before .before .before .before .before .before .before .before .args .table .now) (c .before .before .before .right .given .0 .0) Right s)) (left-contract (c .before .before .before .before .before) .leaves)
 
 right-at : (c : tie.After-known-told2) → partEnd (c .before .before .before .before .before .before .before .before .before .before .before .before .before .before .before .before .before .before .args .table .now) (c .before .before .before .before .before .before .right .given .0 .0) Right (partSeen (c .before .before .before .before .before .before .before .before .before .before .before .before .before .before .before .before .before .before .args .table .now) (leftFrom (c .before .before .before .before .before .before .before .before .before .before .before .before .before .before .before .before .before .before .args .at)) Left unseen) ≡ some (c .before .conditions .given .0 .0)
 right-at c = placed-at (c .before .conditions .given .0 .0) (partEnd (c .before .before .before .before .before .before .before .before .before .before .before .before .before .before .before .before .before .before .args .table .now) (c .before .before .before .before .before .before .right .given .0 .0) Right (partSeen (c .before .before .before .before .before .before .before .before .before .before .before .before .before .before .before .before .before .before .args .table .now) (leftFrom (c .before .before .before .before .before .before .before .before .before .before .before .before .before .before .before .before .before .before .args .at)) Left unseen)) (sym (ap placeOf (c .before .conditions .given .1)) ∙ right-is (c .before .before .before))
 
-kept : (c : tie.After-side-part2) → c .side-part2 .last .1 .1 .1 .0 ≡ partSeen (c .before .before .before .before .before .before .before .before .before .before .before .before .before .before .before .args .table .now) (leftFrom (c .before .before .before .before .before .before .before .before .before .before .before .before .before .before .before .args .at)) Left unseen
-kept c = c .side-part2 .ensures .part .leaves ∙ (part-keeps (c .before .before .before .before .before .before .before .before .before .before .before .before .before .before .before .args .table .now) (c .before .before .before .right .given .0 .0) Right (c .before .before .before .before .before .side-part .last .1 .1 .1 .0) tt ∙ left-contract (c .before .before .before .before .before) .leaves)
+kept : (c : tie.After-right-part) → c .right-part .last .1 .1 .0 ≡ partSeen (c .before .before .before .before .before .before .before .before .before .before .before .before .before .before .before .args .table .now) (leftFrom (c .before .before .before .before .before .before .before .before .before .before .before .before .before .before .before .args .at)) Left unseen
+kept c = c .right-part .ensures .part .leaves ∙ (part-keeps (c .before .before .before .before .before .before .before .before .before .before .before .before .before .before .before .args .table .now) (c .before .before .before .right .given .0 .0) Right (c .before .before .before .before .before .left-part .last .1 .1 .0) tt ∙ left-contract (c .before .before .before .before .before) .leaves)
 
 -- the conditions
 conditions-are : (c : tie.After-conditions-end) → c .conditions-end .result ≡ placed (conditionsEnd (c .before .before .before .before .before .before .before .before .before .before .before .before .before .natural2 .result) (c .before .before .before .before .before .before .before .before .before .before .before .before .before .before .before .before .before .before .before .before .args .table .now) (partSeen (c .before .before .before .before .before .before .before .before .before .before .before .before .before .before .before .before .before .before .before .before .args .table .now) (leftFrom (c .before .before .before .before .before .before .before .before .before .before .before .before .before .before .before .before .before .before .before .before .args .at)) Left unseen) (c .before .before .before .conditions .given .0 .0))
@@ -92,11 +94,11 @@ returns-4 c =
     let q = second-number (c .before) in
     rule-count (c .before .before .before .before .before .before .before .before .args .table .now) (c .before .before .before .before .before .before .before .before .args .at) (room (c .before .before .before .before .before .before)) (c .before .before .before .before .before .word .result) (c .before .before .word2 .result) (c .before .before .before .before .before .word .ensures) (c .before .before .word2 .ensures) (omega arith) (omega arith)
 
-add-side-part : tie.Need-add-side-part
-add-side-part c = search needs
+add-left-part : tie.Need-add-left-part
+add-left-part c = search needs
 
-side-part-requires : tie.Need-side-part-requires
-side-part-requires c κs = search needs
+left-part-requires : tie.Need-left-part-requires
+left-part-requires c κs = search needs
 
 enum-known-right : tie.Need-enum-known-right
 enum-known-right c = search needs
@@ -110,8 +112,8 @@ returns-5 c =
     let at = c .before .before .before .before .before .before .before .before .before .before .before .before .args .at in
     rule-left ws at (c .before .before .before .before .before .natural2 .result) (head (c .before .before .before .before)) (placed-nowhere (partEnd ws (leftFrom at) Left unseen) (sym (ap placeOf (c .enum-told .given .1)) ∙ left-contract (c .before .before) .answer))
 
-side-part-requires-2 : tie.Need-side-part-requires-2
-side-part-requires-2 c κs = search needs
+right-part-requires : tie.Need-right-part-requires
+right-part-requires c κs = search needs
 
 enum-known-conditions : tie.Need-enum-known-conditions
 enum-known-conditions c = search needs
@@ -155,7 +157,7 @@ returns-8 c =
     let g = c .before .before .before .before .before .before .conditions .given in
     rule-good ws at count (head (c .before .before .before .before .before .before .before .before .before .before .before .before .before .before .before)) (c .before .before .before .before .before .before .before .before .before .before .before .right .given .0 .0) (left-at (c .before .before .before .before .before .before .before .before .before .before)) conditions (right-at (c .before .before .before .before .before)) end
     (placed-at end (conditionsEnd count ws (partSeen ws (leftFrom at) Left unseen) conditions) (sym (c .before .end .given .1) ∙ conditions-are (c .before .before .before)))
-    (g .0 .1 .0) (g .0 .1 .1 .0) (c .before .before .before .before .before .before .before .before .side-part2 .ensures .sizes conditions (g .0 .1 .0) (g .0 .1 .1 .0) (g .1))
+    (g .0 .1 .0) (g .0 .1 .1 .0) (c .before .before .before .before .before .before .before .before .right-part .ensures .sizes conditions (g .0 .1 .0) (g .0 .1 .1 .0) (g .1))
 
 pub rule-parts-spec : {M : Type 1} → statement M
 rule-parts-spec =
@@ -170,12 +172,12 @@ rule-parts-spec =
     word-requires-2
     natural-requires-2
     returns-4
-    add-side-part
-    side-part-requires
+    add-left-part
+    left-part-requires
     enum-known-right
     enum-told
     returns-5
-    side-part-requires-2
+    right-part-requires
     enum-known-conditions
     enum-told-2
     returns-6

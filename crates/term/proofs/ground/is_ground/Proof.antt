@@ -1,111 +1,73 @@
--- `is_ground` meets its contract: two words are a ground node's exactly if the datum is in the tag's ground range.
-use mathlib.Core.Path.{_≡_, sym, _∙_, ap, ap₂, subst}
+-- `is_ground` meets its contract: a node in range by its tag, or a dictionary.
+use mathlib.Core.Path.{_≡_, sym, _∙_, ap, subst, subst₂}
 use mathlib.Core.Bool.{Bool, true, false}
-use mathlib.Core.List.{List}
-use Prim.Native.Nat.{ℕ, _+_, _<_}
+use Prim.Native.Nat.{ℕ, _≤_}
 use native.Mathlib.Omega.{arith}
-use borrow.Author.Needs.{needs, sfits-of}
-use lib.IntN.{ℤ, pos, natAbs}
-use lib.ListN.{getD}
+use borrow.Author.Needs.{needs}
+use borrow.Author.Tests.{ltb-true, ltb-false}
+use lib.Dec.{lit<}
+use lib.IntN.{ℤ, pos}
 use lib.Signed.{ltZ}
 use mir.Syntax.{w64}
-use mir.Val.{toZ, ofZ}
+use mir.Val.{ofZ}
 use mir.ValLaws.{toZ-ofZ}
-use Rattle.term.specs.Datum.{tags, groundLeasts, groundMosts}
-use Rattle.term.specs.TermEnd.{GroundNode}
-use Rattle.term.proofs.SignedLaw.{Natural, natural, order}
-use Rattle.term.proofs.GroundLaw.{least-at, most-at, low-tag, high-tag, low-datum, high-datum, in-range}
+use Rattle.minuska.specs.Computed.Read.{dictionaryTag}
+use Rattle.minuska.specs.Dictionary.{maxEntries}
+use Rattle.term.specs.TermEnd.{TaggedNode}
+use Rattle.term.proofs.GroundLaw.{tagged-passes, dictionary-passes, neither-passes}
+use Rattle.term.proofs.SignedLaw.{natural, same-bits}
 use Rattle.term.proofs.ground.is_ground.Statement.{statement}
 use Rattle.term.proofs.ground.is_ground.Tie as tie
 
+in-range-requires : tie.Need-in-range-requires
+in-range-requires c κs = search needs
+
+-- what the test by the tag said
+by-tag : (c : tie.After-in-range) (r : Bool) → c .in-range .result ≡ r → TaggedNode (c .before .args .t) (c .before .args .d) r
+by-tag c r e =
+    let a = c .before .args in
+    subst (TaggedNode (a .t) (a .d)) e
+    (subst₂ (λ (x y : ℤ). TaggedNode x y (c .in-range .result)) (toZ-ofZ w64 (a .t) (c .before .fits .t)) (toZ-ofZ w64 (a .d) (c .before .fits .d)) (c .in-range .ensures))
+
+-- a datum below 0, or above the most
+low : (d : ℤ) (n : ℕ) → ltZ d (pos 0) ≡ true → d ≡ pos n → ⊥
+low d n h e = let l = ltb-true n 0 (ap (λ (z : ℤ). ltZ z (pos 0)) (sym e) ∙ h) in omega arith
+
+high : (d : ℤ) (n : ℕ) → ltZ (pos maxEntries) d ≡ true → d ≡ pos n → n ≤ maxEntries → ⊥
+high d n h e f = let l = ltb-true maxEntries n (ap (ltZ (pos maxEntries)) (sym e) ∙ h) in omega arith
+
 returns : tie.Need-returns
-returns c = let a = c .before .args in low-tag (a .t) (a .d) (rw (toZ-ofZ w64 (a .t) (c .before .fits .t)) at (c .if1 .taken))
-
--- the tag as a number, and an answer about that number
-module _ (c : tie.Else1) where
-  tag : Natural (c .before .args .t) 0
-  tag = natural (c .before .args .t) 0 (c .before .fits .t) (c .if1 .left)
-
-  by-tag : {r : Bool} → GroundNode (pos (tag .number)) (c .before .args .d) r → GroundNode (c .before .args .t) (c .before .args .d) r
-  by-tag {r} g = subst (λ (t : ℤ). GroundNode t (c .before .args .d) r) (tag .is) g
-
-cast-tag : tie.Need-cast-tag
-cast-tag c = tag c .cast
+returns c = tagged-passes (c .before .before .args .t) (c .before .before .args .d) (by-tag (c .before) true (c .if1 .taken))
 
 returns-2 : tie.Need-returns-2
 returns-2 c =
-    let u = c .before in
+    let u = c .before .before in
     let a = u .before .args in
-    by-tag u (high-tag (tag u .number) (a .d) (u .before .fits .d) (rw (tag u .gives) at (c .if2 .taken)))
-
-mul-if3 : tie.Need-mul-if3
-mul-if3 c = search needs
-
-element-copy-out-if3 : tie.Need-element-copy-out-if3
-element-copy-out-if3 c = search needs
-
-small : (c : tie.Else2) → tag (c .before) .number < tags
-small c = let g = tag (c .before) .gives in let h = c .if2 .left in omega arith
-
--- the datum is below the range, or not
-module _ (c : tie.After-if32) where
-  from : getD (c .before .before .before .args .ranges .now) (natAbs (toZ w64 (ofZ w64 (c .before .before .before .args .t)))) (pos 0) ≡ getD groundLeasts (tag (c .before .before) .number) (pos 0)
-  from = ap₂ (λ (l : List ℤ) (n : ℕ). getD l n (pos 0)) (c .before .before .before .pre) (tag (c .before .before) .gives) ∙ least-at (tag (c .before .before) .number) (small (c .before))
-
-  below : (r : Bool) → ltZ (toZ w64 (ofZ w64 (c .before .before .before .args .d))) (toZ w64 (ofZ w64 (getD (c .before .before .before .args .ranges .now) (natAbs (toZ w64 (ofZ w64 (c .before .before .before .args .t)))) (pos 0)))) ≡ r → ltZ (c .before .before .before .args .d) (getD groundLeasts (tag (c .before .before) .number) (pos 0)) ≡ r
-  below r h =
-      let d = c .before .before .before .args .d in
-      ap (ltZ d) (sym from) ∙ order d (getD (c .before .before .before .args .ranges .now) (natAbs (toZ w64 (ofZ w64 (c .before .before .before .args .t)))) (pos 0)) r (c .before .before .before .fits .d) (sfits-of (c .if32 .given)) h
+    neither-passes (a .t) (a .d) (by-tag u false (c .before .if1 .left)) (λ n e f h. c .if2 .taken (ap (ofZ w64) e))
 
 returns-3 : tie.Need-returns-3
 returns-3 c =
-    let v = c .before .before .before in
-    by-tag v (low-datum (tag v .number) (v .before .args .d) (v .before .fits .d) (below (c .before) true (c .if3 .taken)))
-
-add-if4 : tie.Need-add-if4
-add-if4 c = search needs
-
-mul-if4 : tie.Need-mul-if4
-mul-if4 c = search needs
-
-element-copy-out-if4 : tie.Need-element-copy-out-if4
-element-copy-out-if4 c = search needs
-
--- above it, or not
-module _ (c : tie.After-if42) where
-  to : getD (c .before .before .before .before .before .args .ranges .now) (natAbs (toZ w64 (ofZ w64 (c .before .before .before .before .before .args .t))) + tags) (pos 0) ≡ getD groundMosts (tag (c .before .before .before .before) .number) (pos 0)
-  to =
-      let n = tag (c .before .before .before .before) .number in
-      ap₂ (λ (l : List ℤ) (n : ℕ). getD l (n + tags) (pos 0)) (c .before .before .before .before .before .pre) (tag (c .before .before .before .before) .gives) ∙ most-at n
-
-  above : (r : Bool) → ltZ (toZ w64 (ofZ w64 (getD (c .before .before .before .before .before .args .ranges .now) (natAbs (toZ w64 (ofZ w64 (c .before .before .before .before .before .args .t))) + tags) (pos 0)))) (toZ w64 (ofZ w64 (c .before .before .before .before .before .args .d))) ≡ r → ltZ (getD groundMosts (tag (c .before .before .before .before) .number) (pos 0)) (c .before .before .before .before .before .args .d) ≡ r
-  above r h =
-      let d = c .before .before .before .before .before .args .d in
-      ap (λ (z : ℤ). ltZ z d) (sym to) ∙ order (getD (c .before .before .before .before .before .args .ranges .now) (natAbs (toZ w64 (ofZ w64 (c .before .before .before .before .before .args .t))) + tags) (pos 0)) d r (sfits-of (c .if42 .given)) (c .before .before .before .before .before .fits .d) h
+    let u = c .before .before .before in
+    let a = u .before .args in
+    neither-passes (a .t) (a .d) (by-tag u false (c .before .before .if1 .left))
+    (λ n e f h. low (a .d) n (rw (toZ-ofZ w64 (a .d) (u .before .fits .d)) at (c .if3 .taken)) f)
 
 returns-4 : tie.Need-returns-4
 returns-4 c =
-    let v = c .before .before .before .before .before in
-    by-tag v (high-datum (tag v .number) (v .before .args .d) (v .before .fits .d) (above (c .before) true (c .if4 .taken)))
+    let u = c .before .before .before .before in
+    let a = u .before .args in
+    neither-passes (a .t) (a .d) (by-tag u false (c .before .before .before .if1 .left))
+    (λ n e f h. high (a .d) n (rw (toZ-ofZ w64 (a .d) (u .before .fits .d)) at (c .if4 .taken)) f h)
 
 returns-5 : tie.Need-returns-5
 returns-5 c =
     let u = c .before .before .before .before in
-    let v = u .before in
-    by-tag v (in-range (tag v .number) (v .before .args .d) (small u) (record { low = below (c .before .before .before) false (c .before .before .if3 .left); high = above (c .before) false (c .if4 .left) }))
+    let a = u .before .args in
+    let f = u .before .fits in
+    let n = natural (a .d) 0 (f .d) (c .before .if3 .left) in
+    let h : ltZ (pos maxEntries) (a .d) ≡ false = rw (toZ-ofZ w64 (a .d) (f .d)) at (c .if4 .left) in
+    dictionary-passes (a .t) (a .d) (n .number) (same-bits (a .t) (pos dictionaryTag) (f .t) (record { sfits = lit< tt }) (c .before .before .if2 .left)) (sym (n .is)) (ltb-false maxEntries (n .number) (ap (ltZ (pos maxEntries)) (n .is) ∙ h))
 
 pub is-ground-spec : {M : Type 1} → statement M
 is-ground-spec =
-    tie.close
-    (tie.spec
-    returns
-    cast-tag
-    returns-2
-    mul-if3
-    element-copy-out-if3
-    returns-3
-    add-if4
-    mul-if4
-    element-copy-out-if4
-    returns-4
-    returns-5)
+    tie.close (tie.spec in-range-requires returns returns-2 returns-3 returns-4 returns-5)

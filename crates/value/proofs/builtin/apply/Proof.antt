@@ -35,7 +35,10 @@ returns-4 : tie.Need-returns-4
 returns-4 c = let s = c .before .before .before .before .before in rw (toZ-ofZ (s .fits .a), toZ-ofZ (s .fits .x), toZ-ofZ (s .fits .b), toZ-ofZ (s .fits .y), toZ-ofZ (s .fits .c), toZ-ofZ (s .fits .z)) at (c .on-others .ensures)
 
 returns-5 : tie.Need-returns-5
-returns-5 c = c .an-error .ensures ∙ ap rootOf (no-function _ _ _ _ (omega arith))
+returns-5 c =
+    let f = c .before .before .before .before .before .pre .0 in
+    let g = c .before .before .before .before .before .pre .1 in
+    c .an-error .ensures ∙ ap rootOf (no-function _ _ _ _ (omega arith))
 
 pub apply-spec : {M : Type 1} → statement M
 apply-spec =

@@ -1,5 +1,5 @@
 -- The proof of the cycle of calls {arguments, expression}. The number of nodes left falls: `expression` counts two for each, and `arguments` two for each and one.
-use mathlib.Core.Path.{_≡_, sym, ap, _∙_}
+use mathlib.Core.Path.{_≡_, sym, ap, subst⁻¹, _∙_}
 use mathlib.Core.List.{List}
 use Prim.Native.Nat.{ℕ, _+_, _-_, _*_, _/_, _^_, _≤_, _<_}
 use native.Mathlib.Omega.{arith}
@@ -15,10 +15,12 @@ use denote.Ref.{now}
 use borrow.Author.Needs.{needs}
 use borrow.Fn.Kinds.{In}
 use borrow.Fn.PlainCycle.{Measures, is, falls, and}
-use Rattle.minuska.specs.Term.{Forest, nil, Term, termCount}
+use Rattle.minuska.specs.Term.{Forest, nil, Term, single, termCount}
+use Rattle.minuska.specs.Word.{encode}
 use Rattle.minuska.specs.Satisfaction.{Valuation}
 use Rattle.term.specs.TermEnd.{arityOf}
-use Rattle.value.specs.Builtin.{rootOf}
+use Rattle.minuska.specs.Bridge.Walk.{looking}
+use Rattle.value.specs.Builtin.{rootOf, ByRoots}
 use Rattle.value.specs.Root.{given}
 use Rattle.value.specs.declared.builtin.Root.{Root}
 use Rattle.value.specs.Evaluate.{HasValue, HaveValues, FirstMeant, firstTerm, restOf}
@@ -26,7 +28,7 @@ use Rattle.value.proofs.Shift.{lit-pos, abs-back, cast-ok}
 use Rattle.value.proofs.ArityLaw.{arity-is, arity-few}
 use Rattle.value.proofs.RootLaw.{label-is}
 use Rattle.value.proofs.ExpressionLaw.{head-words, CallHere, MoreHere, is-call, is-more, no-more}
-use Rattle.value.proofs.MeantLaw.{call-meant, evaluated, none-first, some-first, rest-behind, one-fewer, roots-are, three-long}
+use Rattle.value.proofs.MeantLaw.{call-meant, lookup-meant, evaluated, none-first, some-first, rest-behind, one-fewer, roots-are, three-long}
 use Rattle.value.proofs.expression.arguments.Reads as arguments
 use Rattle.value.proofs.expression.arguments.Kinds as arguments-kinds
 use Rattle.value.proofs.expression.+arguments+expression.Lts-arguments as arguments-lts
@@ -39,6 +41,7 @@ use Rattle.value.proofs.builtin.apply.Reads as apply-reads
 use Rattle.value.proofs.leaf.given.Reads as given-reads
 use Rattle.value.proofs.leaf.leaf.Reads as leaf-reads
 use Rattle.value.proofs.leaf.root.Reads as root-reads
+use Rattle.value.proofs.lookup.lookup.Reads as lookup-reads
 use Rattle.value.proofs.expression.+arguments+expression.{statement}
 use Rattle.value.proofs.expression.+arguments+expression.Tie.{close}
 
@@ -69,7 +72,7 @@ abbrev arguments-known : ℕ → arguments-lts.Claims
 arguments-known t = (word-reads.Asked, word-reads.Learnt, expression-below t, expression.Post, leaf-reads.Asked, leaf-reads.Learnt)
 
 abbrev expression-known : ℕ → expression-lts.Claims
-expression-known t = (word-reads.Asked, word-reads.Learnt, arity-reads.Asked, arity-reads.Learnt, arguments-below t, arguments.Post, root-reads.Asked, root-reads.Learnt, apply-reads.Asked, apply-reads.Learnt, given-reads.Asked, given-reads.Learnt)
+expression-known t = (word-reads.Asked, word-reads.Learnt, arity-reads.Asked, arity-reads.Learnt, arguments-below t, arguments.Post, lookup-reads.Asked, lookup-reads.Learnt, root-reads.Asked, root-reads.Learnt, apply-reads.Asked, apply-reads.Learnt, given-reads.Asked, given-reads.Learnt)
 
 -- ---- `arguments`: the first of a list that is not empty
 abbrev A-start : ℕ → Type 0
@@ -258,32 +261,77 @@ expression-arguments-requires-3 t c κs =
     let o = second-is t _ _ _ c k .next in
     (omega arith, record { valuation = _; expressions = _; terms = _; have = behind-second t _ _ _ c k; some = third-wanted t _ _ _ c k })
 
+-- a lookup, or another call
+abbrev C-lookup : ℕ → Type 0
+C-lookup t = expression-lts.Then1 (expression-known t) (expression-at t) expression.Post
+
+abbrev C-other : ℕ → Type 0
+C-other t = expression-lts.Else1 (expression-known t) (expression-at t) expression.Post
+
+module _ (t : ℕ) (ρ : Valuation) (e x : Term) where
+  looks : (c : C-lookup t) (k : CallAt t (c .before .before .before .before .before .before) ρ e x) → k .code ≡ looking
+  looks c k = sym (code-is t (c .before .before .before .before .before) (k .code) (k .small) (k .datum)) ∙ c .if1 .taken
+
+  no-lookup : (c : C-other t) (k : CallAt t (c .before .before .before .before .before .before) ρ e x) → k .code ≡ looking → ⊥
+  no-lookup c k q = c .if1 .left (code-is t (c .before .before .before .before .before) (k .code) (k .small) (k .datum) ∙ q)
+
+  -- behind the call's last argument
+  ends : (c : C-third t) (k : CallAt t (c .before .before .before .before .before) ρ e x) → c .arguments3 .result .next ≡ c .before .before .before .before .before .args .at + length (encode (single e))
+  ends c k =
+      let n₁ = first-is t ρ e x (c .before .before) k .next in
+      let n₂ = second-is t ρ e x (c .before) k .next in
+      let n₃ = third-is t ρ e x c k .next in
+      let a = arity-few (k .code) in
+      let b = k .many ∙ sym (arity-is (k .code)) in
+      let l = three-long (e .children) (omega arith) in
+      let j = k .long in
+      omega arith
+
+expression-lookup-requires : (t : ℕ) → expression-lts.Need-lookup-requires (expression-known t) (expression-at t) expression.Post
+expression-lookup-requires t c κs =
+    let d = c .before in
+    let k = the-call t (d .before .before .before .before .before) in
+    (record { term = _; is = first-is t _ _ _ (d .before .before) k .is }, record { term = _; is = second-is t _ _ _ (d .before) k .is })
+
+expression-returns : (t : ℕ) → expression-lts.Need-returns (expression-known t) (expression-at t) expression.Post
+expression-returns t c =
+    let d = c .before in
+    let third = d .before in
+    evaluated _ _ _ _ _ _ λ ρ e x w.
+    let k = a-call t (third .before .before .before .before .before) ρ e x w in
+    lookup-meant _ _ _ _ _ ρ e x k (looks t ρ e x d k) _
+    (c .lookup .ensures .is _ _ (first-is t ρ e x (third .before .before) k .is) (second-is t ρ e x (third .before) k .is)) (c .lookup .ensures .place) (ends t ρ e x third k)
+
 expression-root-requires : (t : ℕ) → expression-lts.Need-root-requires (expression-known t) (expression-at t) expression.Post
 expression-root-requires t c κs =
-    let d = c .before .before in
+    let d = c .before .before .before in
     record { term = _; is = first-is t _ _ _ d (the-call t (d .before .before .before)) .is }
 
 expression-root-requires-2 : (t : ℕ) → expression-lts.Need-root-requires-2 (expression-known t) (expression-at t) expression.Post
 expression-root-requires-2 t c κs =
-    let d = c .before .before in
+    let d = c .before .before .before in
     record { term = _; is = second-is t _ _ _ d (the-call t (d .before .before .before .before)) .is }
 
 expression-root-requires-3 : (t : ℕ) → expression-lts.Need-root-requires-3 (expression-known t) (expression-at t) expression.Post
 expression-root-requires-3 t c κs =
-    let d = c .before .before in
+    let d = c .before .before .before in
     record { term = _; is = third-is t _ _ _ d (the-call t (d .before .before .before .before .before)) .is }
 
 expression-apply-requires : (t : ℕ) → expression-lts.Need-apply-requires (expression-known t) (expression-at t) expression.Post
-expression-apply-requires t c κs = tt
+expression-apply-requires t c κs =
+    let d = c .before .before .before .before .before .before .before .before .before in
+    let k = the-call t (d .before .before .before .before .before .before) in
+    subst⁻¹ ByRoots (code-is t (d .before .before .before .before .before) (k .code) (k .small) (k .datum)) (no-lookup t _ _ _ d k, k .no-update)
 
 expression-given-requires : (t : ℕ) → expression-lts.Need-given-requires (expression-known t) (expression-at t) expression.Post
 expression-given-requires t c κs = tt
 
-expression-returns : (t : ℕ) → expression-lts.Need-returns (expression-known t) (expression-at t) expression.Post
-expression-returns t c =
+expression-returns-2 : (t : ℕ) → expression-lts.Need-returns-2 (expression-known t) (expression-at t) expression.Post
+expression-returns-2 t c =
     let done = c .before in
     let rooted = done .before .before .before .before .before .before .before in
-    let third = rooted .before .before .before in
+    let other = rooted .before .before .before in
+    let third = other .before in
     let second = third .before in
     let first = second .before in
     let start = first .before .before .before in
@@ -292,23 +340,13 @@ expression-returns t c =
     let fc = fits-third t rooted in
     evaluated _ _ _ _ _ _ λ ρ e x w.
     let k = a-call t start ρ e x w in
-    let m₁ = first-is t ρ e x first k in
-    let m₂ = second-is t ρ e x second k in
-    let m₃ = third-is t ρ e x third k in
-    let n₁ = m₁ .next in
-    let n₂ = m₂ .next in
-    let n₃ = m₃ .next in
-    let a = arity-few (k .code) in
-    let b = k .many ∙ sym (arity-is (k .code)) in
-    let l = three-long (e .children) (omega arith) in
-    let j = k .long in
-    let l₁ = label-is _ _ _ (rooted .before .before .root .ensures .is (firstTerm (k .terms)) (m₁ .is)) in
-    let l₂ = label-is _ _ _ (rooted .before .root2 .ensures .is (firstTerm (restOf (k .terms))) (m₂ .is)) in
-    let l₃ = label-is _ _ _ (rooted .root3 .ensures .is (firstTerm (restOf (restOf (k .terms)))) (m₃ .is)) in
-    call-meant _ _ _ _ _ ρ e x k _
+    let l₁ = label-is _ _ _ (rooted .before .before .root .ensures .is (firstTerm (k .terms)) (first-is t ρ e x first k .is)) in
+    let l₂ = label-is _ _ _ (rooted .before .root2 .ensures .is (firstTerm (restOf (k .terms))) (second-is t ρ e x second k .is)) in
+    let l₃ = label-is _ _ _ (rooted .root3 .ensures .is (firstTerm (restOf (restOf (k .terms)))) (third-is t ρ e x third k .is)) in
+    call-meant _ _ _ _ _ ρ e x k (no-lookup t ρ e x other k) _
     (c .given .ensures ∙ ap (λ (r : Root). given (r)) (done .apply .ensures ∙ ap rootOf
     (rw (toZ-ofZ (fa .0), toZ-ofZ (fa .1), toZ-ofZ (fb .0), toZ-ofZ (fb .1), toZ-ofZ (fc .0), toZ-ofZ (fc .1), code-is t (first .before .before) (k .code) (k .small) (k .datum)) (roots-are (k .terms) _ _ _ l₁ l₂ l₃ (k .code)))))
-    (omega arith)
+    (ends t ρ e x third k)
 
 pub +arguments+expression-spec : {M : Type 1} → statement M
 +arguments+expression-spec = close μ-arguments μ-expression (λ t. arguments-lts.spec (arguments-known t)
@@ -331,9 +369,11 @@ pub +arguments+expression-spec : {M : Type 1} → statement M
     (expression-arguments-requires t)
     (expression-arguments-requires-2 t)
     (expression-arguments-requires-3 t)
+    (expression-lookup-requires t)
+    (expression-returns t)
     (expression-root-requires t)
     (expression-root-requires-2 t)
     (expression-root-requires-3 t)
     (expression-apply-requires t)
     (expression-given-requires t)
-    (expression-returns t)
+    (expression-returns-2 t)

@@ -10,8 +10,9 @@ use mir.Syntax.{w64}
 use mir.Val.{toZ, ofZ}
 use denote.Ref.{now}
 use borrow.Author.Needs.{needs}
-use Rattle.minuska.specs.Term.{nil, Term}
+use Rattle.minuska.specs.Term.{nil, Term, single}
 use Rattle.minuska.specs.Satisfaction.{Valuation}
+use Rattle.minuska.proofs.Bridge.ShapeLaw.{ok-shapely}
 use Rattle.value.specs.Evaluate.{HasValue}
 use Rattle.value.proofs.Shift.{lit-pos, abs-back, cast-ok}
 use Rattle.value.proofs.ExpressionLaw.{head-words, VariableHere, GroundHere, is-variable, is-ground}
@@ -85,7 +86,7 @@ ground-end-requires : tie.Need-ground-end-requires
 ground-end-requires c κs =
     let p = c .before .before .pre .expression in
     let g = a-ground c _ _ _ _ (p .has) in
-    record { term = p .expression; good = p .has .placed .good; ground = g .ground; stands = p .has .placed .stands }
+    record { term = p .expression; shape = ok-shapely (single (p .expression)) (p .has .placed .good); ground = g .ground; stands = p .has .placed .stands }
 
 returns-2 : tie.Need-returns-2
 returns-2 c =
@@ -93,7 +94,7 @@ returns-2 c =
       over = λ config.
           evaluated _ config _ _ _ _ λ ρ e x w.
           let g = a-ground (c .before) config ρ e x w in
-          ground-meant _ _ _ _ _ ρ e x w g _ (c .ground-end .ensures .ends e (w .placed .good) (g .ground) (w .placed .stands));
+          ground-meant _ _ _ _ _ ρ e x w g _ (c .ground-end .ensures .ends e (ok-shapely (single e) (w .placed .good)) (g .ground) (w .placed .stands));
     }
 
 pub leaf-spec : {M : Type 1} → statement M

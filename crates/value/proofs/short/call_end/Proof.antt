@@ -1,12 +1,13 @@
 -- `call_end` meets its contract: at most one term stands at a place, so whatever term stands there is the call.
-use mathlib.Core.Path.{_≡_, sym, _∙_, ap}
+use mathlib.Core.Path.{_≡_, refl, sym, _∙_, ap}
 use Prim.Native.Nat.{ℕ, _+_}
 use native.Mathlib.Omega.{arith}
 use lib.ListN.{length}
 use denote.Ref.{now}
-use Rattle.minuska.specs.Term.{Term, single}
+use Rattle.minuska.specs.Term.{Forest, single}
 use Rattle.minuska.specs.Word.{encode}
-use Rattle.minuska.proofs.Bridge.PlaceLaw.{stands-unique}
+use Rattle.minuska.proofs.Bridge.ShapeLaw.{ok-shapely}
+use Rattle.minuska.proofs.Bridge.UniqueLaw.{count-unique}
 use Rattle.term.specs.TermAt.{TermAt}
 use Rattle.value.proofs.ExpressionLaw.{is-call}
 use Rattle.value.proofs.ShortLaw.{call-long}
@@ -14,7 +15,7 @@ use Rattle.value.proofs.short.call_end.Statement.{statement}
 use Rattle.value.proofs.short.call_end.Tie as tie
 
 abbrev the-term : (s : tie.Start) → TermAt (now (s .args .table)) (s .args .at)
-the-term s = let p = s .pre .call .expression in record { term = p .expression; good = p .has .placed .good; stands = p .has .placed .stands }
+the-term s = let p = s .pre .call .expression in record { term = p .expression; shape = ok-shapely (single (p .expression)) (p .has .placed .good); stands = p .has .placed .stands }
 
 six : (c : tie.Then1) → length (encode (single (c .before .before .pre .call .expression .expression))) ≡ 6
 six c =
@@ -32,7 +33,7 @@ returns : tie.Need-returns
 returns c =
     let s = c .before .before in
     let x = the-term s in
-    record { ends = λ t good stands. ap (λ (n : ℕ). s .args .at + n) (sym (six c)) ∙ ap (λ (y : Term). s .args .at + length (encode (single y))) (stands-unique (x .term) t (x .good) good (x .stands) stands) }
+    record { ends = λ t shape stands. ap (λ (n : ℕ). s .args .at + n) (sym (six c)) ∙ ap (λ (f : Forest). s .args .at + length (encode f)) (count-unique (single (x .term)) (single t) (x .shape) shape (x .stands) stands refl) }
 
 expression-end-requires : tie.Need-expression-end-requires
 expression-end-requires c κs = the-term (c .before .before)

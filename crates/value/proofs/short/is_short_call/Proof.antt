@@ -48,14 +48,14 @@ both c = two-here _ _ _ _ _ _ _ _ (the-call (c .before .before .before)) (two-is
 room-first : (c : tie.Else1) → c .before .before .before .args .at + 2 + 2 ≤ length (now (c .before .before .before .args .table))
 room-first c = let h = both c in head-words _ _ (h .a .label) (h .a .children) nil (h .first .placed .stands) .room
 
-low : (c : tie.Then2) → ltZ (getD (now (c .before .before .before .before .before .args .table)) (c .before .before .before .before .before .args .at + 2) (pos 0)) (pos 4) ≡ true
+low : (c : tie.Then3) → ltZ (getD (now (c .before .before .before .before .before .before .args .table)) (c .before .before .before .before .before .before .args .at + 2) (pos 0)) (pos 4) ≡ true
 low c =
     let f : SFits w64 (c .before .word2 .result) = search needs in
-    subst (λ z. ltZ z (pos 4) ≡ true) (toZ-ofZ f ∙ c .before .word2 .ensures) (c .if2 .taken)
+    subst (λ z. ltZ z (pos 4) ≡ true) (toZ-ofZ f ∙ c .before .word2 .ensures) (c .if3 .taken)
 
-room-second : (c : tie.Then2) → c .before .before .before .before .before .args .at + 4 + 2 ≤ length (now (c .before .before .before .before .before .args .table))
+room-second : (c : tie.Then3) → c .before .before .before .before .before .before .args .at + 4 + 2 ≤ length (now (c .before .before .before .before .before .before .args .table))
 room-second c =
-    let h = both (c .before .before) in
+    let h = both (c .before .before .before) in
     let l = short-long _ _ _ _ _ _ (h .a) (h .x) (h .first) (low c) in
     let r = head-words _ _ (h .b .label) (h .b .children) nil (h .second .placed .stands) .room in
     omega arith
@@ -78,11 +78,14 @@ arity-requires c κs = rw (code-is c) (the-call (c .before) .small)
 returns : tie.Need-returns
 returns c = λ e. absurd (let z : _≡_ {A = ℕ} 0 1 = cc in omega arith)
 
+returns-2 : tie.Need-returns-2
+returns-2 c = λ e. absurd (let z : _≡_ {A = ℕ} 0 1 = cc in omega arith)
+
 add-word-2 : tie.Need-add-word-2
-add-word-2 c = let h = room-first c in omega arith
+add-word-2 c = let h = room-first (c .before) in omega arith
 
 word-requires-2 : tie.Need-word-requires-2
-word-requires-2 c κs = let h = room-first c in omega arith
+word-requires-2 c κs = let h = room-first (c .before) in omega arith
 
 add-word-3 : tie.Need-add-word-3
 add-word-3 c = let h = room-second c in omega arith
@@ -90,18 +93,21 @@ add-word-3 c = let h = room-second c in omega arith
 word-requires-3 : tie.Need-word-requires-3
 word-requires-3 c κs = let h = room-second c in omega arith
 
-returns-2 : tie.Need-returns-2
-returns-2 c =
+returns-3 : tie.Need-returns-3
+returns-3 c =
     let f : SFits w64 (c .word3 .result) = search needs in
-    let e = c .before .before .before in
+    let e = c .before .before .before .before in
+    let d = e .before .before in
+    let k = the-call (d .before) in
     λ q. record {
-      two = ap (λ (n : ℕ). functionAt n .arity) (ap natAbs (the-call (e .before .before .before) .datum)) ∙ two-is e;
+      no-lookup = λ p. c .before .before .before .if2 .left (code-is d ∙ (sym (ap natAbs (k .datum)) ∙ p));
+      two = ap (λ (n : ℕ). functionAt n .arity) (ap natAbs (k .datum)) ∙ two-is e;
       first = low (c .before);
       second = subst (λ z. ltZ z (pos 4) ≡ true) (toZ-ofZ f ∙ c .word3 .ensures) q;
     }
 
-returns-3 : tie.Need-returns-3
-returns-3 c = λ e. absurd (let z : _≡_ {A = ℕ} 0 1 = cc in omega arith)
+returns-4 : tie.Need-returns-4
+returns-4 c = λ e. absurd (let z : _≡_ {A = ℕ} 0 1 = cc in omega arith)
 
 pub is-short-call-spec : {M : Type 1} → statement M
 is-short-call-spec =
@@ -112,9 +118,10 @@ is-short-call-spec =
     cast-code
     arity-requires
     returns
+    returns-2
     add-word-2
     word-requires-2
     add-word-3
     word-requires-3
-    returns-2
-    returns-3)
+    returns-3
+    returns-4)

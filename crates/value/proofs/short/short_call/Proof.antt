@@ -13,6 +13,7 @@ use Rattle.minuska.specs.Term.{nil, Term, single}
 use Rattle.minuska.specs.Word.{encode}
 use Rattle.minuska.specs.Function.{functions, functionAt}
 use Rattle.minuska.specs.Satisfaction.{Valuation}
+use Rattle.minuska.specs.Bridge.Walk.{looking}
 use Rattle.value.specs.Builtin.{rootOf}
 use Rattle.value.specs.Root.{given}
 use Rattle.value.specs.Evaluate.{HasValue}
@@ -41,6 +42,9 @@ the-call s = a-call s _ _ _ _ (s .pre .call .expression .has)
 module _ (s : tie.Start) (ends : List ℕ) (ρ : Valuation) (e x : Term) (k : CallAt s ends ρ e x) where
   both : TwoHere (now (s .args .table)) (now (s .args .configuration)) (now (s .args .starts)) ends (s .args .at) ρ e x k
   both = two-here _ _ _ _ _ ρ e x k (ap (λ (n : ℕ). functionAt n .arity) (sym (ap natAbs (k .datum))) ∙ s .pre .short .two)
+
+  no-lookup : k .code ≡ looking → ⊥
+  no-lookup q = s .pre .short .no-lookup (ap natAbs (k .datum) ∙ q)
 
   long-first : length (encode (single (both .a))) ≡ 2
   long-first = short-long _ _ _ _ _ ρ (both .a) (both .x) (both .first) (s .pre .short .first)
@@ -102,7 +106,11 @@ short-root-requires-2 c κs =
     record { ends = _; expression = record { valuation = _; expression = h .b; term = h .y; has = second-at s _ _ _ _ (the-call s) }; low = s .pre .short .second }
 
 apply-requires : tie.Need-apply-requires
-apply-requires c κs = tt
+apply-requires c κs =
+    let first = c .before .before .before .before .before in
+    let s = first .before .before in
+    let k = the-call s in
+    rw (code-is (first .before) (k .code) (k .small) (k .datum)) (no-lookup s _ _ _ _ k, k .no-update)
 
 returns : tie.Need-returns
 returns c =
@@ -122,7 +130,7 @@ returns c =
           let l₁ = label-is _ _ _ (first .short-root .ensures .over ends ρ (h .a) (h .x) (h .first)) ∙ sym (h .one) in
           let l₂ = label-is _ _ _ (second .short-root2 .ensures .over ends ρ (h .b) (h .y) (second-at s ends ρ e x k)) ∙ sym (h .two) in
           let l₃ = error-root ∙ sym (h .three) in
-          call-meant _ _ _ _ _ ρ e x k _
+          call-meant _ _ _ _ _ ρ e x k (no-lookup s ends ρ e x k) _
           (ap (λ (r : Root). given r) (c .apply .ensures ∙ ap rootOf
           (rw (toZ-ofZ (fa .0), toZ-ofZ (fa .1), toZ-ofZ (fb .0), toZ-ofZ (fb .1), code-is (first .before) (k .code) (k .small) (k .datum), l₁, l₂, l₃))))
           (omega arith);
