@@ -8,7 +8,7 @@ mod show;
 mod text;
 
 fn main() {
-    let mut input = [0u8; 98304];
+    let mut input = [0u8; 131072];
     let read = io::read_full(STDIN_FILENO, &mut input);
     script::all(&input[..read]);
 }

@@ -120,8 +120,8 @@ fn line(
 
 // The place behind a line's end.
 fn behind(at: usize, length: usize) -> usize {
-    if at < 98304 {
-        if length < 98304 {
+    if at < 131072 {
+        if length < 131072 {
             return at + length + 1;
         }
     }

@@ -8,11 +8,11 @@ use mathlib.Core.List.{List, [], _∷_}
 use Prim.Native.Nat.{ℕ}
 use lib.Dec.{T}
 use lib.IntN.{ℤ, _*ℤ_}
-use lib.Signed.{quotZ}
 use lib.ListN.{getElem?}
 use Rattle.minuska.specs.Basics.{every}
 use Rattle.minuska.specs.Term.{whole, Forest, Term, single, leaf, Role, role, groundAt, isGround}
 use Rattle.minuska.specs.Word.{ok}
+use Rattle.minuska.specs.Nearest.{nearest}
 use Rattle.minuska.specs.Function.{inWord, outOfRange, shareRange}
 use Rattle.minuska.specs.Satisfaction.{Valuation, Matches, Evaluates, Instantiates, SideCondition, Agree, HoldAll}
 use Rattle.minuska.specs.Rule.{Rule, Table, okRule, okCondition, okTable}
@@ -54,7 +54,7 @@ pub record RelatesGround (r : Rule) (ρ : Valuation) (g h : Term) : Type 0 where
 ground-values : (ρ : Valuation) → GroundIn ρ → (f g : Forest) → values ρ f ≡ some g → T (isGround g)
 ground-values ρ h f g e =
     label-values (λ l. groundAt (role l)) (λ l. true) (λ l s y. subst⁻¹ (λ (r : Role). T (groundAt r)) s tt)
-    (label-apply (λ l. groundAt (role l)) tt (λ b. tt) (λ n. tt) (λ z. ground-if (inWord z) z) (λ a b c. ground-if (shareRange a b c) (quotZ (a *ℤ b) c))) ρ h f g (everywhere f) e
+    (label-apply (λ l. groundAt (role l)) tt (λ b. tt) (λ n. tt) (λ z. ground-if (inWord z) z) (λ a b c. ground-if (shareRange a b c) (nearest (a *ℤ b) c))) ρ h f g (everywhere f) e
   where
     ground-if : (b : Bool) (z : ℤ) → Ground (cond b (leaf (whole z)) outOfRange)
     ground-if true z = tt

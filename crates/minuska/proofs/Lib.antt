@@ -19,6 +19,8 @@ pub mod OutcomeLaw
 pub mod RefusalLaw
 pub mod ContractLaw
 pub mod ShutLaw
+pub mod NearestLaw
+pub mod ShareLaw
 pub mod DictionaryLaw
 pub mod FunctionLaw
 pub mod LabelLaw

@@ -1,4 +1,4 @@
--- P1 to P12: one table of cases, and what a case means, over the relations and demand 3's claim alone.
+-- P1 to P12, and a case of document 02: one table of cases, and what a case means, over the relations and demand 3's claim alone.
 use mathlib.Core.Path.{_≡_}
 use mathlib.Core.Bool.{Bool, true, false}
 use mathlib.Core.Logic.{_↔_}
@@ -48,9 +48,9 @@ pub data Case : Type 0 where
 
 unfoldable pub cases : List Case
 cases =
-    -- P1: z.share(7,1,2) is 3, of -7 it is -3
-    evaluates (words (4 ∷ 14 ∷ 2 ∷ 7 ∷ 2 ∷ 1 ∷ 2 ∷ 2 ∷ [])) (words (2 ∷ 3 ∷ [])) ∷
-    evaluates (pos 4 ∷ pos 14 ∷ pos 2 ∷ negsuc 6 ∷ words (2 ∷ 1 ∷ 2 ∷ 2 ∷ [])) (pos 2 ∷ negsuc 2 ∷ []) ∷
+    -- P1, as document 02, request 2, has it: z.share(7,1,2) is 4, of -7 it is -4
+    evaluates (words (4 ∷ 14 ∷ 2 ∷ 7 ∷ 2 ∷ 1 ∷ 2 ∷ 2 ∷ [])) (words (2 ∷ 4 ∷ [])) ∷
+    evaluates (pos 4 ∷ pos 14 ∷ pos 2 ∷ negsuc 6 ∷ words (2 ∷ 1 ∷ 2 ∷ 2 ∷ [])) (pos 2 ∷ negsuc 3 ∷ []) ∷
     -- P2: 9223372036854775807 plus 1 is error
     evaluates (words (4 ∷ 8 ∷ 2 ∷ 9223372036854775807 ∷ 2 ∷ 1 ∷ [])) (words (0 ∷ 0 ∷ [])) ∷
     -- P3: pair[X,X] fits pair[3,3], not pair[3,4]
@@ -73,7 +73,9 @@ cases =
     -- P11: the empty log
     replays [] 4 (lines [] (words (9 ∷ 1 ∷ 2 ∷ 2 ∷ []))) ∷
     -- P12: log 10,10,20
-    replays (10 ∷ 10 ∷ 20 ∷ []) 4 (lines (0 ∷ 1 ∷ 2 ∷ []) (words (9 ∷ 1 ∷ 2 ∷ 1 ∷ []))) ∷ []
+    replays (10 ∷ 10 ∷ 20 ∷ []) 4 (lines (0 ∷ 1 ∷ 2 ∷ []) (words (9 ∷ 1 ∷ 2 ∷ 1 ∷ []))) ∷
+    -- "5 over 2 gives 2" (document 02, request 2)
+    evaluates (words (4 ∷ 14 ∷ 2 ∷ 5 ∷ 2 ∷ 1 ∷ 2 ∷ 2 ∷ [])) (words (2 ∷ 2 ∷ [])) ∷ []
 
 -- WHAT A CASE MEANS. These words are that term, which is an expression, or has no call.
 pub record IsTerm (kind : Forest → Bool) (ws : List ℤ) (t : Term) : Type 0 where

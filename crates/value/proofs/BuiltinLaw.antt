@@ -7,13 +7,14 @@ use native.Mathlib.Omega.{arith}
 use lib.Dec.{eqb, leb}
 use lib.ListN.{length, List·getD-eq-default}
 use lib.IntN.{ℤ, pos, negsuc, _*ℤ_}
-use lib.Signed.{mag, ltZ, quotZ}
+use lib.Signed.{mag, ltZ}
 use borrow.Author.Tests.{ltb-true, ltb-false, le-leb, lt-leb, ne-eqb}
 use mir.Syntax.{w64}
 use mir.Val.{SFits, toZ, ofZ}
 use mir.Facts.{toZ-ofZ}
 use Rattle.minuska.specs.Term.{truth, Label, error, whole, symbol, dictionary, Term, asSymbol, asTruth, asWhole}
 use Rattle.minuska.specs.Basics.{_>>=_, present, provided, sameWhole}
+use Rattle.minuska.specs.Nearest.{nearest}
 use Rattle.minuska.specs.Function.{wrongKind, orWrongKind, inWord, wholeTerm, shareRange, shareOf, Function, functions, noFunction}
 use Rattle.value.specs.Builtin.{unsigned, labelAt, rootOf, leaves, applied}
 use Rattle.value.proofs.Shift.{eq-bits, word-is, word-not}
@@ -161,7 +162,7 @@ module _ (x y z : ℤ) where
   pub share-out : shareRange x y z ≡ false → error ≡ shareOf x y z .label
   share-out e = rw e
 
-  pub share-in : shareRange x y z ≡ true → whole (quotZ (x *ℤ y) z) ≡ shareOf x y z .label
+  pub share-in : shareRange x y z ≡ true → whole (nearest (x *ℤ y) z) ≡ shareOf x y z .label
   share-in e = rw e
 
 -- ---- a sum or a difference that was tested first: z as the machine computes it, y as the table has it

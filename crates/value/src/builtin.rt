@@ -1,4 +1,5 @@
 // The built-in functions, on the roots of their arguments: two words each, tag and datum.
+use crate::rounding::nearest;
 use term::DICTIONARY;
 use term::SYMBOL;
 use term::TRUTH;
@@ -7,10 +8,10 @@ ghost use mathlib.Core.Path.{_≡_};
 ghost use mathlib.Core.Bool.{_&&_, cond};
 ghost use Prim.Native.Nat.{_≤_};
 ghost use lib.Dec.{leb};
-ghost use lib.IntN.{natAbs, _+ℤ_, _-ℤ_};
+ghost use lib.IntN.{natAbs};
 ghost use Rattle.minuska.specs.Basics.{sameWhole};
 ghost use Rattle.minuska.specs.Term.{Label, error, truth, whole, dictionary};
-ghost use Rattle.minuska.specs.Function.{wrongKind, truthTerm, inWord, wholeTerm, shareRange, shareOf};
+ghost use Rattle.minuska.specs.Function.{wrongKind, truthTerm, shareRange, shareOf};
 ghost use Rattle.value.specs.Builtin.{labelAt, rootOf, applied, ByRoots};
 
 // The root of a term: the two words of its first node. The gap lies between them: they are written one by one, and would else be read back as one, for which a
@@ -277,14 +278,13 @@ pub fn small(x: i64) -> bool
     x <= 2147483647
 }
 
-// Toward zero; within the ranges the product fits.
+// Within the ranges the product fits.
 pub fn quotient(a: i64, b: i64, c: i64) -> Root
     ensures { λ r. ⌜ r ≡ rootOf (shareOf a b c .label) ⌝ }
 {
     if in_range(a, b, c) {
         let product = a * b;
-        let share = product / c;
-        return a_whole(share);
+        return a_whole(nearest(product, c));
     }
     an_error()
 }

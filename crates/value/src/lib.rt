@@ -12,6 +12,7 @@ ghost use Rattle.value.specs.Evaluate.{ExpressionIn, EvaluateContract, C
 ghost use Rattle.value.specs.Copy.{PutContract};
 
 pub mod builtin; // the functions whose value is one node
+mod rounding; // a quotient to the nearest
 mod expression; // a call's value and its argument list
 pub mod leaf; // values that need no recursion
 pub mod lookup; // a value in a dictionary

@@ -4,8 +4,9 @@ use agree::call::Call;
 use agree::compare::perform;
 use agree::generate::Calls;
 use agree::search::{search, search_once};
-use interpreter::tree::{Label, Rule, Table, Term, Valuation, matches, value};
+use interpreter::tree::{Function, Label, Rule, Table, Term, Valuation, matches, value};
 use interpreter::{Routines, Tree};
+use std::cmp::Ordering;
 use std::collections::BTreeMap;
 
 const CALLS: usize = 40_000;
@@ -71,23 +72,43 @@ fn every_kind_of_answer() {
 /// What a call of a function gives: its code and the kind of the value.
 type Values = BTreeMap<(i64, &'static str), usize>;
 
-fn count_calls(term: &Term, valuation: &Valuation, values: &mut Values) {
-    if let Label::Call(function) = term.label() {
-        let kind = match value(term, valuation).label() {
-            Label::Error => "error",
-            Label::Bool(false) => "false",
-            Label::Bool(true) => "true",
-            Label::Int(number) if number < 0 => "negative",
-            Label::Int(_) => "number",
-            Label::Dictionary => "dictionary",
-            _ => "symbol",
-        };
-        *values.entry((function.code(), kind)).or_default() += 1;
+/// What a share's division leaves: the sign of the product, the side of the half.
+fn share_rest(term: &Term, valuation: &Valuation) -> Option<&'static str> {
+    let whole = |term| match value(term, valuation).label() {
+        Label::Int(number) => Some(number as i128),
+        _ => None,
+    };
+    let [a, b, c] = term.children() else {
+        return None;
+    };
+    if !matches!(term.label(), Label::Call(Function::Share)) || whole(term).is_none() {
+        return None;
     }
-    for child in term.children() {
-        count_calls(child, valuation, values);
-    }
+    let (product, c) = (whole(a)? * whole(b)?, whole(c)?);
+    let (quotient, rest) = (product / c, product % c);
+    let kind = match (2 * rest.abs()).cmp(&c) {
+        _ if rest == 0 => 0,
+        Ordering::Less => 1,
+        Ordering::Greater => 2,
+        Ordering::Equal if quotient % 2 == 0 => 3,
+        Ordering::Equal => 4,
+    };
+    Some(RESTS[kind + 5 * (product < 0) as usize])
 }
+
+/// Zero and above, then below.
+const RESTS: [&str; 10] = [
+    "nothing left",
+    "less than a half left",
+    "more than a half left",
+    "a half above an even number",
+    "a half above an odd number",
+    "below zero, nothing left",
+    "below zero, less than a half left",
+    "below zero, more than a half left",
+    "below zero, a half below an even number",
+    "below zero, a half below an odd number",
+];
 
 /// How often rules matched, and why they did not apply or did.
 #[derive(Default, Debug)]
@@ -99,6 +120,7 @@ struct Rules {
     conditions_hold: usize,
     eight_conditions: usize,
     values: Values,
+    rests: BTreeMap<&'static str, usize>,
 }
 
 impl Rules {
@@ -110,15 +132,36 @@ impl Rules {
             return;
         };
         self.repeated += repeated as usize;
-        count_calls(&rule.right, &valuation, &mut self.values);
+        self.count_calls(&rule.right, &valuation);
         for (one, two) in &rule.conditions {
-            count_calls(one, &valuation, &mut self.values);
-            count_calls(two, &valuation, &mut self.values);
+            self.count_calls(one, &valuation);
+            self.count_calls(two, &valuation);
         }
         let applies = rule.successor(configuration).is_some();
         self.condition_failed += !applies as usize;
         self.conditions_hold += (applies && !rule.conditions.is_empty()) as usize;
         self.eight_conditions += (applies && rule.conditions.len() == 8) as usize;
+    }
+
+    fn count_calls(&mut self, term: &Term, valuation: &Valuation) {
+        if let Label::Call(function) = term.label() {
+            let kind = match value(term, valuation).label() {
+                Label::Error => "error",
+                Label::Bool(false) => "false",
+                Label::Bool(true) => "true",
+                Label::Int(number) if number < 0 => "negative",
+                Label::Int(_) => "number",
+                Label::Dictionary => "dictionary",
+                _ => "symbol",
+            };
+            *self.values.entry((function.code(), kind)).or_default() += 1;
+        }
+        if let Some(rest) = share_rest(term, valuation) {
+            *self.rests.entry(rest).or_default() += 1;
+        }
+        for child in term.children() {
+            self.count_calls(child, valuation);
+        }
     }
 }
 
@@ -159,6 +202,10 @@ fn rules_and_functions() {
     assert!(rules.condition_failed > 500 && rules.conditions_hold > 500);
     assert!(rules.eight_conditions > 20);
     assert_functions(&rules.values);
+    for rest in RESTS {
+        let count = rules.rests.get(rest).copied().unwrap_or(0);
+        assert!(count >= 20, "a share, {rest}: {count}");
+    }
 }
 
 /// Every function gives every kind of value that it can.

@@ -196,6 +196,13 @@ fn runs() -> Vec<Case> {
             million,
             3,
         ),
+        run(
+            "a share a step",
+            &rules::shares(),
+            rules::counters(million as i64, 0),
+            million,
+            3,
+        ),
         fib,
         fact,
         run(

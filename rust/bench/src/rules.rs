@@ -32,6 +32,14 @@ pub fn counters(one: i64, two: i64) -> Words {
     symbol(0, &[int(one), int(two)])
 }
 
+/// `state[M, N]` to `state[M - 1, z.share(M, 1103, 10007)]` if `0 < M`.
+pub fn shares() -> Vec<RuleWords> {
+    let state = |one, two| symbol(0, &[one, two]);
+    let share = call(14, &[x(), int(1_103), int(10_007)]);
+    let rule = RuleWords::new(1, state(x(), y()), state(call(9, &[x(), int(1)]), share));
+    vec![rule.when(call(12, &[int(0), x()]), truth(true))]
+}
+
 /// `cabinet[D, K]` to `cabinet[map.update(D, K, map.lookup(D, K) + 1), K]`, and a key further each
 /// time: `K` goes through the keys `0` to `63` and back to `0`.
 pub fn updated_meters() -> Vec<RuleWords> {

@@ -1,6 +1,6 @@
-//! The cases of the scope paper, P1 to P7 and those without a mark, for both interpreters. (P8 to
-//! P12 are also in `command_line.rs`, as text.) Then those of the first change request,
-//! dictionaries.
+//! The cases of the scope paper, P1 (as the second change request has it) to P7 and those without
+//! a mark, for both interpreters. (P8 to P12 are also in `command_line.rs`, as text.) Then those
+//! of the first change request, dictionaries.
 
 use interpreter::{Check, Refusal, Replay, Routines, Run, Step, Tree, Tuned};
 
@@ -53,8 +53,9 @@ fn stepped(rule: u8, action: u16, nodes: u32) -> Step {
 
 #[test]
 fn p1_share() {
-    assert_value(&[4, 14, 2, 7, 2, 1, 2, 2], &[2, 3]);
-    assert_value(&[4, 14, 2, -7, 2, 1, 2, 2], &[2, -3]);
+    assert_value(&[4, 14, 2, 7, 2, 1, 2, 2], &[2, 4]);
+    assert_value(&[4, 14, 2, 5, 2, 1, 2, 2], &[2, 2]);
+    assert_value(&[4, 14, 2, -7, 2, 1, 2, 2], &[2, -4]);
 }
 
 #[test]

@@ -217,9 +217,16 @@ impl Expressions<'_> {
         call(13, &arguments)
     }
 
-    /// A number in the range of `z.share`'s argument, or one beyond.
+    /// A number in the range of `z.share`'s argument, or one beyond. Some are so small that the
+    /// value is often an exact half.
     fn share_argument(&mut self, place: usize) -> i64 {
         const M: i64 = 2_147_483_647;
+        if self.rng.percent(40) {
+            return match place {
+                2 => self.rng.pick(&[2, 2, 4, 6, 20, 100]),
+                _ => self.rng.pick(&[1, 3, -1, -3, 5, -5, 7, -9, 25, -50, 150]),
+            };
+        }
         let number = self.rng.pick(&[
             M,
             M - 1,

@@ -3,6 +3,7 @@
 use super::dictionary::{dictionary_of, empty, entries_of, lookup, update};
 use super::term::{Label, Term};
 use crate::limits;
+use std::cmp::Ordering;
 
 /// A built-in function.
 #[derive(Clone, Copy, Debug, PartialEq, Eq, Hash)]
@@ -112,13 +113,27 @@ impl Function {
     }
 }
 
-/// A times B over C, the fraction dropped toward zero, if the three are in range.
+/// A times B over C to the nearest, an exact half to the even neighbour, if the three are in range.
 fn share(a: i64, b: i64, c: i64) -> Option<i64> {
     let factor = -limits::SHARE + 1..limits::SHARE;
     let divisor = 1..limits::SHARE;
     if factor.contains(&a) && factor.contains(&b) && divisor.contains(&c) {
-        Some(a * b / c)
+        Some(nearest(a * b, c))
     } else {
         None
+    }
+}
+
+/// `z` over `c` to the nearest: the quotient rounded down, or the next number; of an exact half the
+/// even one.
+fn nearest(z: i64, c: i64) -> i64 {
+    let below = z.div_euclid(c);
+    let above = below + 1;
+    let doubled = 2 * z.rem_euclid(c);
+    match doubled.cmp(&c) {
+        Ordering::Less => below,
+        Ordering::Greater => above,
+        Ordering::Equal if below % 2 == 0 => below,
+        Ordering::Equal => above,
     }
 }

@@ -336,10 +336,19 @@ fn binary(code: i64, a: Head, b: Head) -> Head {
     }
 }
 
+/// `z` over `c`, toward zero, and one further where twice the rest is above `c`, or equal to it and
+/// the quotient odd.
+#[inline(always)]
+fn nearest(z: i64, c: i64) -> i64 {
+    let (quotient, rest) = (z / c, z % c);
+    let further = 2 * rest.abs() + (quotient & 1) > c;
+    quotient + if further { z.signum() } else { 0 }
+}
+
 fn share(a: Head, b: Head, c: Head) -> Head {
     let factor = |a: Head| a.0 == INT && -limits::SHARE < a.1 && a.1 < limits::SHARE;
     if factor(a) && factor(b) && factor(c) && c.1 > 0 {
-        (INT, a.1 * b.1 / c.1)
+        (INT, nearest(a.1 * b.1, c.1))
     } else {
         FAILED
     }
