@@ -23,6 +23,20 @@ static void checks(void) {
     assert(hethalip_check_configuration(spin, 2) == HETHALIP_BAD_CONFIGURATION);
 }
 
+static uint64_t match(const int64_t *configuration, size_t configuration_len, size_t rule) {
+    return hethalip_match(table, LEN(table), configuration, configuration_len, rule);
+}
+
+static void matches(void) {
+    uint64_t answer = match(spin, LEN(spin), 1);
+    assert(hethalip_kind(answer) == HETHALIP_MATCHES && hethalip_compared(answer) == 2);
+    answer = match(spin, LEN(spin), 2);
+    assert(hethalip_kind(answer) == HETHALIP_DIFFERS && hethalip_compared(answer) == 1);
+    assert(match(spin, LEN(spin), 3) == HETHALIP_DIFFERS);
+    assert(match(spin, 2, 3) == HETHALIP_BAD_CONFIGURATION);
+    assert(hethalip_match(table, 46, spin, 2, 3) == HETHALIP_BAD_TABLE);
+}
+
 static void steps(void) {
     static const int64_t successor[] = {10, 2, 2, 2, 9, 1, 2, 2};
     uint64_t answer = hethalip_step_by_rule(table, LEN(table), spin, LEN(spin), 1, out, LEN(out));
@@ -70,6 +84,7 @@ static void replays(void) {
 
 int main(void) {
     checks();
+    matches();
     steps();
     runs();
     replays();

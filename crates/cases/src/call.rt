@@ -30,6 +30,11 @@ pub fn part(configuration: &[i64], a: &[i64; 8]) {
     crate::show::part(words.len(), crate::build::front(words, 4));
 }
 
+// A rule's left against the configuration: the rule's number. No slice is written.
+pub fn left<'a>(table: &'a [i64], configuration: &'a [i64], a: &[i64; 8]) {
+    crate::show::matched(step::match_rule(table, configuration, number(a[0])));
+}
+
 fn step_into<'a>(table: &'a [i64], configuration: &'a [i64], out: &mut [i64]) {
     crate::show::stepped(step::step(table, configuration, out));
     crate::show::out(out);

@@ -1,5 +1,6 @@
 // Printing: an answer by its word and numbers, and a slice whole, three or more equal words as one group.
 use minuska::Check;
+use minuska::MatchAnswer;
 use minuska::Refusal;
 use minuska::ReplayAnswer;
 use minuska::RunAnswer;
@@ -70,6 +71,14 @@ pub fn checked(what: &[u8], name: &[u8], c: Check) {
     named(name);
     check(c);
     end();
+}
+
+pub fn matched(a: MatchAnswer) {
+    match a {
+        MatchAnswer::Matches(k) => counted(b"matches ", k),
+        MatchAnswer::Differs(k) => counted(b"differs ", k),
+        MatchAnswer::Refused(r) => refusal(r),
+    }
 }
 
 fn numbers(rule: usize, action: u16, nodes: usize) {

@@ -17,7 +17,7 @@ use Rattle.minuska.specs.Computed.Read.{readTable, readConfiguration}
 use Rattle.minuska.specs.Computed.Replay.{replay}
 use Rattle.minuska.specs.Computed.Outcome.{replayOutcome}
 use Rattle.minuska.specs.Marked as M
-use Rattle.minuska.specs.Marked.{words, sample, initial, Printed, lines, noPath, refusal, evaluates, matches, steps, replays, Prints, Means}
+use Rattle.minuska.specs.Marked.{words, sample, initial, Printed, lines, noPath, refusal, evaluates, matches, differs, steps, replays, Prints, Means}
 use Rattle.minuska.proofs.Tests.{and-left, and-right}
 use Rattle.minuska.proofs.ReplayLaw.{replay-only}
 use Rattle.minuska.proofs.OutcomeLaw.{replay-outcome}
@@ -66,6 +66,7 @@ answer-text log limit x m (gives y) e t =
 abbrev isAnswered : M.Case → Bool
 isAnswered (evaluates e v) = true
 isAnswered (matches l c b) = true
+isAnswered (differs l c k) = true
 isAnswered (steps c x) = true
 isAnswered (replays log limit x) = isAnswer (replayOutcome sample initial log limit 1024 256 4096)
 
@@ -73,6 +74,7 @@ isAnswered (replays log limit x) = isAnswer (replayOutcome sample initial log li
 abbrev Writes : M.Case → Type 0
 Writes (evaluates e v) = Unit {0}
 Writes (matches l c b) = Unit {0}
+Writes (differs l c k) = Unit {0}
 Writes (steps c x) = Unit {0}
 Writes (replays log limit x) = answerText (answered (some (sampled log limit))) ≡ printedText x
 
@@ -80,6 +82,7 @@ case-writes : (c : M.Case) → T (isAnswered c) → Means c → Writes c
 unfolding answered
 case-writes (evaluates e v) t m = tt
 case-writes (matches l c b) t m = tt
+case-writes (differs l c k) t m = tt
 case-writes (steps c x) t m = tt
 case-writes (replays log limit x) t m = answer-text log limit x m (replayOutcome sample initial log limit 1024 256 4096) refl t
 

@@ -32,7 +32,9 @@ enum {
     HETHALIP_RUN_STUCK = 18,        /* bits 8 up, the count of steps */
     HETHALIP_RUN_SPENT = 19,        /* bits 8 up, the count of steps */
     HETHALIP_REPRODUCED = 20,
-    HETHALIP_NOT_REPRODUCED = 21
+    HETHALIP_NOT_REPRODUCED = 21,
+    HETHALIP_MATCHES = 22,          /* bits 8 up, the left's nodes compared: all */
+    HETHALIP_DIFFERS = 23           /* bits 8 up, those up to and including the first that disagrees; 0: the number names no rule */
 };
 
 /* The highest limit, the longest log, the highest budget. */
@@ -49,12 +51,18 @@ static inline size_t hethalip_nodes(uint64_t answer) { return (size_t)(answer >>
 /* The count of steps of a run: of HETHALIP_RUN_STUCK, HETHALIP_RUN_SPENT and HETHALIP_OVER_LIMIT. */
 static inline uint64_t hethalip_steps(uint64_t answer) { return answer >> 8; }
 
+/* The left's nodes that a match compared: of HETHALIP_MATCHES and HETHALIP_DIFFERS. */
+static inline uint64_t hethalip_compared(uint64_t answer) { return answer >> 8; }
+
 /* The words of work that a replay needs, for a log and a limit up to the highest. */
 static inline size_t hethalip_work_len(size_t log_len, uint64_t limit) { return (log_len + 1) * (2 * (size_t)limit + 2); }
 
 /* Kinds 0 and 1; 0 and 2. */
 uint64_t hethalip_check_table(const int64_t *table, size_t table_len);
 uint64_t hethalip_check_configuration(const int64_t *configuration, size_t configuration_len);
+
+/* Kinds 1, 2, 22, 23: whether the left of one rule matches the configuration, conditions aside, and how many of its nodes were compared, in preorder. */
+uint64_t hethalip_match(const int64_t *table, size_t table_len, const int64_t *configuration, size_t configuration_len, size_t rule);
 
 /* Kinds 1, 2, 6, 16, 17. Stepped: the successor stands at the start of out, the words behind it keep; else out keeps. The limit is half of out's words,
  * at most 32,768 nodes. */

@@ -2,32 +2,34 @@
 use mathlib.Core.Path.{_≡_, refl, subst⁻¹}
 use mathlib.Core.Option.{Option, none, some}
 use mathlib.Core.List.{List, [], _∷_}
-use Prim.Native.Nat.{ℕ, _≤_, _<_}
+use Prim.Native.Nat.{ℕ, zero, suc, _≤_, _<_}
 use native.Mathlib.Omega.{arith}
 use lib.Dec.{T, lit≤}
 use lib.IntN.{ℤ}
-use lib.ListN.{length}
+use lib.ListN.{length, getElem?}
 use Rattle.minuska.specs.Term.{Term, nodeCount}
-use Rattle.minuska.specs.Rule.{Table, maxNodes, maxSteps, maxActions, okTable}
+use Rattle.minuska.specs.Rule.{Rule, Table, maxNodes, maxSteps, maxActions, okTable}
 use Rattle.minuska.specs.Rewriting.{RewritesBy}
 use Rattle.minuska.specs.declared.Check.{Check}
 use Rattle.minuska.specs.declared.Refusal.{Refusal}
 use Rattle.minuska.specs.declared.Refusal.the-variants.{BadTable, BadConfiguration}
+use Rattle.minuska.specs.declared.MatchAnswer.{MatchAnswer}
 use Rattle.minuska.specs.declared.StepAnswer.{StepAnswer}
 use Rattle.minuska.specs.declared.RunAnswer.{RunAnswer}
 use Rattle.minuska.specs.declared.ReplayAnswer.{ReplayAnswer}
-use Rattle.minuska.specs.Answer.{number, Outcome, refused, gives, StepResult, stepped, stuck, tooLarge, Ending, endsStuck, endsSpent, endsOver, RunResult, ReplayResult, reproduced, exceeded, notReproduced}
-use Rattle.minuska.specs.Claim.{longRow, limitRow, shortRow, sizeRows, RunShort, ReplayShort}
-use Rattle.minuska.specs.Slice.{outLimit, stepAnswer, endedAs, runAnswer, replayAnswer}
+use Rattle.minuska.specs.Answer.{number, Outcome, refused, gives, MatchResult, matched, misfit, StepResult, stepped, stuck, tooLarge, Ending, endsStuck, endsSpent, endsOver, RunResult, ReplayResult, reproduced, exceeded, notReproduced}
+use Rattle.minuska.specs.Claim.{stepRows, longRow, limitRow, shortRow, sizeRows, RunShort, ReplayShort}
+use Rattle.minuska.specs.Slice.{outLimit, matchAnswer, stepAnswer, endedAs, runAnswer, replayAnswer}
 use Rattle.minuska.specs.Computed.Read.{readTable, readConfiguration}
 use Rattle.minuska.specs.Computed.Outcome.{checked, tableCheck, configurationCheck}
-use Rattle.minuska.specs.Contract.{CheckTableContract, CheckConfigurationContract, StepContract, StepByRuleContract, RunContract, ReplayContract}
+use Rattle.minuska.specs.Contract.{CheckTableContract, CheckConfigurationContract, MatchRuleContract, StepContract, StepByRuleContract, RunContract, ReplayContract}
 use Rattle.minuska.proofs.Good.{good}
 use Rattle.minuska.proofs.OrderLaw.{named-below}
 use Rattle.minuska.proofs.Bridge.PositionLaw.{few-rules}
+use Rattle.minuska.proofs.MisfitLaw.{place-low}
 use Rattle.minuska.proofs.StepLaw.{rule-okay}
-use Rattle.minuska.proofs.RefusalLaw.{NumberWithin, row-failed, words-read, early-number, size-numbers}
-use Rattle.hethalip.specs.Range.{CheckInRange, StepInRange, RunInRange, ReplayInRange}
+use Rattle.minuska.proofs.RefusalLaw.{NumberWithin, number-within, row-failed, words-read, early-number, size-numbers}
+use Rattle.hethalip.specs.Range.{CheckInRange, MatchInRange, StepInRange, RunInRange, ReplayInRange}
 
 -- ---- the checks
 checked-in-range : {A : Type 0} (why : Refusal) → number why ≤ 2 → (o : Option A) → CheckInRange (checked why o)
@@ -42,6 +44,35 @@ module _ {ws : List ℤ} {r : Check} where
   pub configuration-in-range : CheckConfigurationContract ws r → CheckInRange r
   unfolding configurationCheck number
   configuration-in-range c = subst⁻¹ CheckInRange (c .answer) (checked-in-range BadConfiguration (lit≤ tt) (readConfiguration ws))
+
+-- ---- the left of one rule: it has at most 512 nodes
+counts-in-range : (o : Outcome MatchResult) → NumberWithin 2 o → ((k : ℕ) → o ≡ gives (matched k) → k ≤ 512) → ((k : ℕ) → o ≡ gives (misfit k) → k ≤ 512) → MatchInRange (matchAnswer o)
+unfolding matchAnswer
+counts-in-range (refused why) e f g = e
+counts-in-range (gives (matched k)) e f g = f k refl
+counts-in-range (gives (misfit k)) e f g = g k refl
+
+left-few : (t : Table) → T (okTable t) → (n : ℕ) (r : Rule) → getElem? t n ≡ some r → nodeCount (r .left) ≤ 512
+left-few t x n r e = good r (rule-okay t x n r e) .left .small
+
+module _ {ws cs : List ℤ} {rule : ℕ} {r : MatchAnswer} where
+  pub match-in-range : MatchRuleContract ws cs rule r → MatchInRange r
+  unfolding number
+  match-in-range c =
+      subst⁻¹ MatchInRange (c .answer) (counts-in-range (c .outcome) (number-within 2 (stepRows ws cs) (c .outcome) (lit≤ tt, (lit≤ tt, tt)) (c .refuses)) all some-compared)
+    where
+      all : (k : ℕ) → c .outcome ≡ gives (matched k) → k ≤ 512
+      all k e =
+          let w = words-read ws cs [] (c .outcome) (matched k) e (c .refuses) in
+          let s = c .claim .meets (w .0) (w .1) (matched k) (w .2) (w .3) e .matches k .0 refl in
+          omega (arith, s .2, left-few (w .0) (w .2 .accepted) rule (s .0) (s .1))
+
+      some-compared : (k : ℕ) → c .outcome ≡ gives (misfit k) → k ≤ 512
+      some-compared zero e = omega arith
+      some-compared (suc place) e =
+          let w = words-read ws cs [] (c .outcome) (misfit (suc place)) e (c .refuses) in
+          let s = c .claim .meets (w .0) (w .1) (misfit (suc place)) (w .2) (w .3) e .disagrees place .0 refl in
+          omega (arith, place-low (s .0 .left) (w .1) place (s .2), left-few (w .0) (w .2 .accepted) rule (s .0) (s .1))
 
 -- ---- the step and the step by one given rule
 -- a rule that rewrites has a number and an action in range

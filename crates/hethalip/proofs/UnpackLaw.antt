@@ -6,6 +6,8 @@ use Rattle.minuska.specs.declared.Refusal.{Refusal}
 use Rattle.minuska.specs.declared.Refusal.the-variants.{BadTable, BadConfiguration, TooLong, BadLimit, ShortBuffer, OverLimit, Unreadable}
 use Rattle.minuska.specs.declared.Check.{Check}
 use Rattle.minuska.specs.declared.Check.the-variants as C
+use Rattle.minuska.specs.declared.MatchAnswer.{MatchAnswer}
+use Rattle.minuska.specs.declared.MatchAnswer.the-variants as M
 use Rattle.minuska.specs.declared.StepAnswer.{StepAnswer}
 use Rattle.minuska.specs.declared.StepAnswer.the-variants as S
 use Rattle.minuska.specs.declared.RunAnswer.{RunAnswer}
@@ -13,10 +15,10 @@ use Rattle.minuska.specs.declared.RunAnswer.the-variants as R
 use Rattle.minuska.specs.declared.ReplayAnswer.{ReplayAnswer}
 use Rattle.minuska.specs.declared.ReplayAnswer.the-variants as P
 use Rattle.minuska.specs.Answer.{number}
-use Rattle.minuska.specs.Slice.{checkSays, stepSays, runSays, replaySays}
-use Rattle.hethalip.specs.Pack.{packCheck, packStep, packRun, packReplay}
-use Rattle.hethalip.specs.Range.{CheckInRange, StepInRange, RunInRange, ReplayInRange}
-use Rattle.hethalip.specs.Unpack.{Lossless, unpackCheck, unpackStep, unpackRun, unpackReplay}
+use Rattle.minuska.specs.Slice.{checkSays, matchSays, stepSays, runSays, replaySays}
+use Rattle.hethalip.specs.Pack.{packCheck, packMatch, packStep, packRun, packReplay}
+use Rattle.hethalip.specs.Range.{CheckInRange, MatchInRange, StepInRange, RunInRange, ReplayInRange}
+use Rattle.hethalip.specs.Unpack.{Lossless, unpackCheck, unpackMatch, unpackStep, unpackRun, unpackReplay}
 
 lossless : {A : Type 0} (pack : A → ℕ) (unpack : ℕ → A) (InRange : A → Type 0) → ((a : A) → InRange a → pack a < 2 ^ 64) → ((a : A) → InRange a → unpack (pack a) ≡ a) → Lossless pack unpack InRange
 lossless pack unpack InRange f u =
@@ -51,6 +53,28 @@ check-reads (C.Refused why) h = each (λ w. unpackCheck (number w) ≡ C.Refused
 
 pub check-lossless : Lossless packCheck unpackCheck CheckInRange
 check-lossless = lossless packCheck unpackCheck CheckInRange check-fits check-reads
+
+-- ---- the left of one rule
+match-fits : (a : MatchAnswer) → MatchInRange a → packMatch a < 2 ^ 64
+unfolding packMatch matchSays
+match-fits (M.Matches k) h = omega arith
+match-fits (M.Differs k) h = omega arith
+match-fits (M.Refused why) h = omega arith
+
+match-reads : (a : MatchAnswer) → MatchInRange a → unpackMatch (packMatch a) ≡ a
+unfolding packMatch unpackMatch matchSays number
+match-reads (M.Matches k) h =
+    let e : packMatch (M.Matches k) % 2 ^ 8 ≡ 22 = omega arith in
+    let f : packMatch (M.Matches k) / 2 ^ 8 ≡ k = omega arith in
+    rw (e, f)
+match-reads (M.Differs k) h =
+    let e : packMatch (M.Differs k) % 2 ^ 8 ≡ 23 = omega arith in
+    let f : packMatch (M.Differs k) / 2 ^ 8 ≡ k = omega arith in
+    rw (e, f)
+match-reads (M.Refused why) h = each (λ w. unpackMatch (number w) ≡ M.Refused w) refl refl refl refl refl refl refl why
+
+pub match-lossless : Lossless packMatch unpackMatch MatchInRange
+match-lossless = lossless packMatch unpackMatch MatchInRange match-fits match-reads
 
 -- ---- the step, and the step by one given rule
 step-fits : (a : StepAnswer) → StepInRange a → packStep a < 2 ^ 64

@@ -2,17 +2,25 @@
 use mathlib.Core.Path.{_≡_}
 use Prim.Native.Nat.{ℕ, _+_, _*_, _^_}
 use Rattle.minuska.specs.declared.Check.{Check}
+use Rattle.minuska.specs.declared.MatchAnswer.{MatchAnswer}
+use Rattle.minuska.specs.declared.MatchAnswer.the-variants as M
 use Rattle.minuska.specs.declared.StepAnswer.{StepAnswer}
 use Rattle.minuska.specs.declared.StepAnswer.the-variants as S
 use Rattle.minuska.specs.declared.RunAnswer.{RunAnswer}
 use Rattle.minuska.specs.declared.RunAnswer.the-variants as R
 use Rattle.minuska.specs.declared.ReplayAnswer.{ReplayAnswer}
 use Rattle.minuska.specs.declared.ReplayAnswer.the-variants as P
-use Rattle.minuska.specs.Slice.{checkSays, stepSays, runSays, replaySays}
+use Rattle.minuska.specs.Slice.{checkSays, matchSays, stepSays, runSays, replaySays}
 
 -- the two checks: 0 good; 1, 2 document 01's number of a refusal, as 1 to 6 below
 unfoldable pub packCheck : Check → ℕ
 packCheck answer = checkSays answer .number
+
+-- the left of one rule: 22 it matches, 23 it does not, bits 8 up the nodes compared
+unfoldable pub packMatch : MatchAnswer → ℕ
+packMatch (M.Matches k) = 22 + k * 2 ^ 8
+packMatch (M.Differs k) = 23 + k * 2 ^ 8
+packMatch (M.Refused why) = matchSays (M.Refused why) .number
 
 -- the step, the step by one given rule: 17 stepped, bits 8 to 15 the rule, 16 to 31 the action, 32 up the node count; 16 stuck, or does not apply
 unfoldable pub packStep : StepAnswer → ℕ

@@ -2,6 +2,8 @@
 use Prim.Native.Nat.{_≤_, _<_}
 use Rattle.minuska.specs.declared.Check.{Check}
 use Rattle.minuska.specs.declared.Check.the-variants as C
+use Rattle.minuska.specs.declared.MatchAnswer.{MatchAnswer}
+use Rattle.minuska.specs.declared.MatchAnswer.the-variants as M
 use Rattle.minuska.specs.declared.StepAnswer.{StepAnswer}
 use Rattle.minuska.specs.declared.StepAnswer.the-variants as S
 use Rattle.minuska.specs.declared.RunAnswer.{RunAnswer}
@@ -14,6 +16,12 @@ use Rattle.minuska.specs.Answer.{number}
 abbrev pub CheckInRange : Check → Type 0
 CheckInRange C.Good = Unit {0}
 CheckInRange (C.Refused why) = number why ≤ 2
+
+-- "Each term or expression has at most 512 nodes."
+abbrev pub MatchInRange : MatchAnswer → Type 0
+MatchInRange (M.Matches k) = k ≤ 512
+MatchInRange (M.Differs k) = k ≤ 512
+MatchInRange (M.Refused why) = number why ≤ 2
 
 -- "its rule count, 0 to 256", "action (0 to 65,535)", "at most 32,768 nodes"
 abbrev pub StepInRange : StepAnswer → Type 0

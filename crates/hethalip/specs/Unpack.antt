@@ -9,6 +9,8 @@ use Rattle.minuska.specs.declared.Refusal.the-variants.{Unreadable}
 use Rattle.minuska.specs.Answer.{number, refusals}
 use Rattle.minuska.specs.declared.Check.{Check}
 use Rattle.minuska.specs.declared.Check.the-variants as C
+use Rattle.minuska.specs.declared.MatchAnswer.{MatchAnswer}
+use Rattle.minuska.specs.declared.MatchAnswer.the-variants as M
 use Rattle.minuska.specs.declared.StepAnswer.{StepAnswer}
 use Rattle.minuska.specs.declared.StepAnswer.the-variants as S
 use Rattle.minuska.specs.declared.RunAnswer.{RunAnswer}
@@ -29,6 +31,10 @@ refusalOf n = numbered n refusals
 
 unfoldable pub unpackCheck : ℕ → Check
 unpackCheck r = cond (eqb (kind r) 0) C.Good (C.Refused (refusalOf (kind r)))
+
+unfoldable pub unpackMatch : ℕ → MatchAnswer
+unpackMatch r =
+    cond (eqb (kind r) 22) (M.Matches (r / 2 ^ 8)) (cond (eqb (kind r) 23) (M.Differs (r / 2 ^ 8)) (M.Refused (refusalOf (kind r))))
 
 unfoldable pub unpackStep : ℕ → StepAnswer
 unpackStep r =

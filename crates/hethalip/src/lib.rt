@@ -1,8 +1,8 @@
 // The C interface: each routine under a fixed name, its answer packed into one number.
 mod pack;
 
-ghost use Rattle.minuska.specs.Contract.{CheckTableContract, CheckConfigurationContract, StepContract, StepByRuleContract, RunContract, ReplayContract};
-ghost use Rattle.hethalip.specs.Pack.{packCheck, packStep, packRun, packReplay, Packs};
+ghost use Rattle.minuska.specs.Contract.{CheckTableContract, CheckConfigurationContract, MatchRuleContract, StepContract, StepByRuleContract, RunContract, ReplayContract};
+ghost use Rattle.hethalip.specs.Pack.{packCheck, packMatch, packStep, packRun, packReplay, Packs};
 
 // The check of a table.
 #[no_mangle]
@@ -20,6 +20,15 @@ pub extern "C" fn hethalip_check_configuration(configuration: &[i64]) -> u64
 {
     let answer = term::check_configuration(configuration);
     pack::check(answer)
+}
+
+// A rule's left matched against the configuration.
+#[no_mangle]
+pub extern "C" fn hethalip_match<'a>(table: &'a [i64], configuration: &'a [i64], rule: usize) -> u64
+    ensures { λ r. ⌜ Packs packMatch (MatchRuleContract (now (table .entry)) (now (configuration .entry)) rule) r ⌝ }
+{
+    let answer = step::match_rule(table, configuration, rule);
+    pack::matched(answer)
 }
 
 // The step.

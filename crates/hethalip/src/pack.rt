@@ -1,13 +1,14 @@
 // An answer as one number: its kind in the low byte, its values above.
 use minuska::Check;
+use minuska::MatchAnswer;
 use minuska::ReplayAnswer;
 use minuska::RunAnswer;
 use minuska::StepAnswer;
 ghost use mathlib.Core.Path.{_≡_};
 ghost use Prim.Native.Nat.{_+_, _*_, _≤_, _<_, _^_};
 ghost use Rattle.minuska.specs.Rule.{maxNodes, maxSteps};
-ghost use Rattle.hethalip.specs.Pack.{packCheck, packStep, packRun, packReplay};
-ghost use Rattle.hethalip.specs.Range.{StepInRange, RunInRange};
+ghost use Rattle.hethalip.specs.Pack.{packCheck, packMatch, packStep, packRun, packReplay};
+ghost use Rattle.hethalip.specs.Range.{MatchInRange, StepInRange, RunInRange};
 
 // A check.
 pub fn check(answer: Check) -> u64
@@ -16,6 +17,26 @@ pub fn check(answer: Check) -> u64
     match answer {
         Check::Good => 0,
         Check::Refused(why) => minuska::number(why),
+    }
+}
+
+// A count above its kind.
+fn counted(kind: u64, k: usize) -> u64
+    requires { ⌜ (kind < 256) × (k ≤ maxSteps) ⌝ }
+    ensures { λ r. ⌜ r ≡ kind + k * 2 ^ 8 ⌝ }
+{
+    kind + k as u64 * 256
+}
+
+// A match.
+pub fn matched(answer: MatchAnswer) -> u64
+    requires { ⌜ MatchInRange answer ⌝ }
+    ensures { λ r. ⌜ r ≡ packMatch answer ⌝ }
+{
+    match answer {
+        MatchAnswer::Matches(count) => counted(22, count),
+        MatchAnswer::Differs(count) => counted(23, count),
+        MatchAnswer::Refused(why) => minuska::number(why),
     }
 }
 
@@ -41,14 +62,6 @@ pub fn step(answer: StepAnswer) -> u64
         StepAnswer::Stuck => 16,
         StepAnswer::Refused(why) => minuska::number(why),
     }
-}
-
-// A count of steps above its kind.
-fn counted(kind: u64, k: usize) -> u64
-    requires { ⌜ (kind < 256) × (k ≤ maxSteps) ⌝ }
-    ensures { λ r. ⌜ r ≡ kind + k * 2 ^ 8 ⌝ }
-{
-    kind + k as u64 * 256
 }
 
 // A run.

@@ -5,20 +5,27 @@ use mathlib.Core.List.{List, [], _∷_}
 use Prim.Native.Nat.{ℕ}
 use lib.IntN.{ℤ}
 use lib.ListN.{length}
+use Rattle.minuska.specs.declared.MatchAnswer.{MatchAnswer}
 use Rattle.minuska.specs.declared.StepAnswer.{StepAnswer}
 use Rattle.minuska.specs.declared.RunAnswer.{RunAnswer}
 use Rattle.minuska.specs.declared.ReplayAnswer.{ReplayAnswer}
 use Rattle.minuska.specs.Term.{Term}
 use Rattle.minuska.specs.Rule.{Table, IsTable, IsConfiguration}
-use Rattle.minuska.specs.Answer.{Check, Outcome, refused, gives, StepResult, stepped, stuck, tooLarge, Ending, endsStuck, endsSpent, endsOver, RunResult, ReplayResult, reproduced, exceeded, notReproduced}
+use Rattle.minuska.specs.Answer.{Check, Outcome, refused, gives, MatchResult, matched, misfit, StepResult, stepped, stuck, tooLarge, Ending, endsStuck, endsSpent, endsOver, RunResult, ReplayResult, reproduced, exceeded, notReproduced}
 use Rattle.minuska.specs.Claim.{TableClaim, ConfigurationClaim}
-use Rattle.minuska.specs.Slice.{checkSays, stepSays, runSays, replaySays, outcomeSays, stepResultSays, endingSays, runResultSays, replayResultSays, endedAs, stepAnswer, stepOut, runAnswer, runOut, runSpare, replayAnswer, replayOut, replayChoices, replayWork}
-use Rattle.minuska.specs.Computed.Outcome.{tableCheck, configurationCheck, ruleOutcome, stepOutcome, runOutcome, replayOutcome}
-use Rattle.minuska.specs.Contract.{CheckTableContract, CheckConfigurationContract, StepByRuleContract, StepContract, RunContract, ReplayContract}
-use Rattle.minuska.proofs.OutcomeLaw.{table-check, table-check-says, configuration-check, configuration-check-says, rule-outcome, step-outcome, run-outcome, replay-outcome}
-use Rattle.minuska.proofs.RefusalLaw.{rule-refuses, step-refuses, run-refuses, replay-refuses}
+use Rattle.minuska.specs.Slice.{checkSays, matchSays, stepSays, runSays, replaySays, outcomeSays, matchResultSays, stepResultSays, endingSays, runResultSays, replayResultSays, endedAs, matchAnswer, stepAnswer, stepOut, runAnswer, runOut, runSpare, replayAnswer, replayOut, replayChoices, replayWork}
+use Rattle.minuska.specs.Computed.Outcome.{tableCheck, configurationCheck, matchOutcome, ruleOutcome, stepOutcome, runOutcome, replayOutcome}
+use Rattle.minuska.specs.Contract.{CheckTableContract, CheckConfigurationContract, MatchRuleContract, StepByRuleContract, StepContract, RunContract, ReplayContract}
+use Rattle.minuska.proofs.OutcomeLaw.{table-check, table-check-says, configuration-check, configuration-check-says, match-outcome, rule-outcome, step-outcome, run-outcome, replay-outcome}
+use Rattle.minuska.proofs.RefusalLaw.{match-refuses, rule-refuses, step-refuses, run-refuses, replay-refuses}
 
 -- ---- what is said
+match-says : (o : Outcome MatchResult) → matchSays (matchAnswer o) ≡ outcomeSays matchResultSays o
+unfolding matchSays matchAnswer
+match-says (refused r) = refl
+match-says (gives (matched k)) = refl
+match-says (gives (misfit k)) = refl
+
 step-says : (o : Outcome StepResult) → stepSays (stepAnswer o) ≡ outcomeSays stepResultSays o
 unfolding stepSays stepAnswer
 step-says (refused r) = refl
@@ -51,6 +58,12 @@ module _ (ws : List ℤ) (r : Check) where
 
   pub check-configuration-contract : r ≡ configurationCheck ws → CheckConfigurationContract ws r
   check-configuration-contract e = record { answer = e; claim = subst⁻¹ (ConfigurationClaim ws) e (configuration-check ws); says = subst⁻¹ (λ (x : Check). (checkSays x .number ≡ 2) ↔ ((g : Term) → IsConfiguration ws g → ⊥)) e (configuration-check-says ws) }
+
+-- ---- the left of one rule
+module _ (ws cs : List ℤ) (n : ℕ) (r : MatchAnswer) where
+  pub match-rule-contract : r ≡ matchAnswer (matchOutcome ws cs n) → MatchRuleContract ws cs n r
+  match-rule-contract e =
+      record { outcome = matchOutcome ws cs n; is = refl; answer = e; says = ap matchSays e ∙ match-says (matchOutcome ws cs n); claim = match-outcome ws cs n; refuses = match-refuses ws cs n }
 
 -- ---- the step by one given rule, and the step
 module _ (ws cs : List ℤ) (n : ℕ) (out out′ : List ℤ) (r : StepAnswer) where

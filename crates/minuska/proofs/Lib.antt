@@ -6,6 +6,8 @@ pub mod SpanLaw
 pub mod TableLaw
 pub mod ConfigurationLaw
 pub mod MatchLaw
+pub mod CompareLaw
+pub mod MisfitLaw
 pub mod ValueLaw
 pub mod ExpressionLaw
 pub mod ConditionLaw

@@ -16,14 +16,17 @@ use Rattle.minuska.specs.Claim.{StepClaim, ReplayClaim}
 use Rattle.minuska.specs.Computed.Read.{decodeTerm, readTable, readConfiguration}
 use Rattle.minuska.specs.Computed.Match.{sameTerm, unbound, tryMatch}
 use Rattle.minuska.specs.Computed.Value.{value}
+use Rattle.minuska.specs.Misfit.{Disagrees}
+use Rattle.minuska.specs.Computed.Compare.{Comparison, agreed, apart, comparison}
 use Rattle.minuska.specs.Computed.Step.{step}
 use Rattle.minuska.specs.Computed.Replay.{replay}
-use Rattle.minuska.specs.Marked.{sample, initial, Printed, lines, noPath, refusal, Case, evaluates, matches, steps, replays, cases, IsTerm, Worth, Fits, Steps, Prints, Means, AllMean}
+use Rattle.minuska.specs.Marked.{sample, initial, Printed, lines, noPath, refusal, Case, evaluates, matches, differs, steps, replays, cases, IsTerm, Worth, Fits, Steps, Prints, Means, AllMean}
 use Rattle.minuska.proofs.Tests.{and-left, and-right, same-term}
 use Rattle.minuska.proofs.WordLaw.{decode-term-iff}
 use Rattle.minuska.proofs.TableLaw.{read-table-iff}
 use Rattle.minuska.proofs.ConfigurationLaw.{read-configuration-iff}
 use Rattle.minuska.proofs.MatchLaw.{match-sound, match-complete}
+use Rattle.minuska.proofs.MisfitLaw.{apart-disagrees}
 use Rattle.minuska.proofs.ValueLaw.{value-iff-evaluates, value-agree}
 use Rattle.minuska.proofs.StepLaw.{step-meets}
 use Rattle.minuska.proofs.ReplayLaw.{replay-meets}
@@ -147,9 +150,22 @@ abbrev prints : List ℕ → ℕ → Printed → Table → Term → Bool
 prints log limit x table g = leb (nodeCount g) limit && printIs x (replay table limit log g)
 
 -- ---- the test of a case
+-- ---- a left and a configuration that disagree
+abbrev apartIs : ℕ → Comparison → Bool
+apartIs k (agreed ρ) = false
+apartIs k (apart j) = eqb j k
+
+abbrev parted : ℕ → Term → Term → Bool
+parted k t g = ofKind isSymbolic t && apartIs k (comparison t g)
+
+apart-means : (k : ℕ) (t g : Term) (c : Comparison) → comparison t g ≡ c → T (apartIs k c) → Disagrees t g k
+apart-means k t g (agreed ρ) e x = absurd x
+apart-means k t g (apart j) e x = apart-disagrees t g k (e ∙ ap apart (eqb→eq j k x))
+
 unfoldable passes : Case → Bool
 passes (evaluates e v) = both (decodeTerm e) (readConfiguration v) worth
 passes (matches l c b) = both (decodeTerm l) (readConfiguration c) (fits b)
+passes (differs l c k) = both (decodeTerm l) (readConfiguration c) (parted k)
 passes (steps c x) = both (readTable sample) (readConfiguration c) λ table g. stepIs x (step table maxNodes g)
 passes (replays log limit x) = both (readTable sample) (readConfiguration initial) (prints log limit x)
 
@@ -186,6 +202,9 @@ means (evaluates e v) = of-term isExpression e v worth Worth tested
 means (matches l c b) = of-term isSymbolic l c (fits b) (Fits b) λ t g x.
     let o = tryMatch (single t) (single g) unbound in
     (and-left (ofKind isSymbolic t) (fitIs b o) x, fit-means b t g o refl (and-right (ofKind isSymbolic t) (fitIs b o) x))
+means (differs l c k) = of-term isSymbolic l c (parted k) (λ t g. Disagrees t g k) λ t g x.
+    let o = comparison t g in
+    (and-left (ofKind isSymbolic t) (apartIs k o) x, apart-means k t g o refl (and-right (ofKind isSymbolic t) (apartIs k o) x))
 means (steps c x) = of-table c (λ table g. stepIs x (step table maxNodes g)) (Steps x) λ table g p t. step-means x maxNodes table g (step table maxNodes g) (step-meets table (p .accepted) maxNodes g) t
 means (replays log limit x) = of-table initial (prints log limit x) (Prints log limit x) λ table g p t.
     let a = leb (nodeCount g) limit in

@@ -13,15 +13,17 @@ use borrow.Author.Tests.{ltb-false}
 use Rattle.minuska.specs.Term.{Term, nodeCount}
 use Rattle.minuska.specs.Rule.{Table, IsTable, IsConfiguration, maxNodes, maxSteps, maxActions}
 use Rattle.minuska.specs.Answer.{Refusal, number, Check, Good, Refused, BadTable, BadConfiguration, Outcome, refused, gives}
-use Rattle.minuska.specs.Claim.{TableClaim, ConfigurationClaim, RuleClaim, StepClaim, RunClaim, ReplayClaim, Meets}
+use Rattle.minuska.specs.Claim.{TableClaim, ConfigurationClaim, MatchClaim, RuleClaim, StepClaim, RunClaim, ReplayClaim, Meets}
 use Rattle.minuska.specs.Computed.Read.{readTable, readConfiguration}
+use Rattle.minuska.specs.Computed.Compare.{matchRule}
 use Rattle.minuska.specs.Computed.Step.{stepByRule, step}
 use Rattle.minuska.specs.Computed.Run.{run}
 use Rattle.minuska.specs.Computed.Replay.{replay}
 use Rattle.minuska.specs.Slice.{checkSays, outLimit}
-use Rattle.minuska.specs.Computed.Outcome.{need, onWords, Test, tested, sizeTests, checked, tableCheck, configurationCheck, ruleOutcome, stepOutcome, limitRefused, runShort, runOutcome, replayShort, replayOutcome}
+use Rattle.minuska.specs.Computed.Outcome.{need, onWords, Test, tested, sizeTests, checked, tableCheck, configurationCheck, matchOutcome, ruleOutcome, stepOutcome, limitRefused, runShort, runOutcome, replayShort, replayOutcome}
 use Rattle.minuska.proofs.TableLaw.{read-table-iff}
 use Rattle.minuska.proofs.ConfigurationLaw.{read-configuration-iff}
+use Rattle.minuska.proofs.MisfitLaw.{match-meets}
 use Rattle.minuska.proofs.StepLaw.{rule-meets, step-meets}
 use Rattle.minuska.proofs.RunLaw.{run-meets}
 use Rattle.minuska.proofs.ReplayLaw.{replay-meets}
@@ -114,6 +116,11 @@ limit-holds n g e = ltb-false n (nodeCount g) (or-false (eqb n 0 || ltb maxNodes
 
 -- THE ANSWERS ON WORDS MEET THEIR CLAIMS
 module _ (ws cs : List ℤ) where
+  pub match-outcome : (n : ℕ) → Meets ws cs (λ t g. MatchClaim t n g) (matchOutcome ws cs n)
+  unfolding matchOutcome
+  match-outcome n =
+      record { meets = λ t g y p q e. subst (MatchClaim t n g) (gives-injective (matchRule t n g) y (sym (on-words ws cs t g p q (λ u h. gives (matchRule u n h))) ∙ e)) (match-meets t n g) }
+
   pub rule-outcome : (n out : ℕ) → Meets ws cs (λ t g. RuleClaim t (outLimit out) n g) (ruleOutcome ws cs n out)
   unfolding ruleOutcome
   rule-outcome n out =

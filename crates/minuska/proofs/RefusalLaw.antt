@@ -16,11 +16,12 @@ use Rattle.minuska.specs.Answer.{Refusal, number, BadTable, BadConfigura
 use Rattle.minuska.specs.Claim.{FirstGiven, tableRow, configurationRow, wordRows, LimitOutside, sizeRows, stepRows, RunShort, runRows, workWords, ReplayShort, replayRows}
 use Rattle.minuska.specs.Computed.Read.{readTable, readConfiguration}
 use Rattle.minuska.specs.Bridge.Place.{Decides}
+use Rattle.minuska.specs.Computed.Compare.{matchRule}
 use Rattle.minuska.specs.Computed.Step.{stepByRule, step}
 use Rattle.minuska.specs.Computed.Run.{run}
 use Rattle.minuska.specs.Computed.Replay.{replay}
 use Rattle.minuska.specs.Slice.{outLimit}
-use Rattle.minuska.specs.Computed.Outcome.{need, onWords, Test, tested, sizeTests, ruleOutcome, stepOutcome, limitRefused, runShort, runOutcome, replayShort, replayOutcome}
+use Rattle.minuska.specs.Computed.Outcome.{need, onWords, Test, tested, sizeTests, matchOutcome, ruleOutcome, stepOutcome, limitRefused, runShort, runOutcome, replayShort, replayOutcome}
 use Rattle.minuska.proofs.TableLaw.{read-table-iff}
 use Rattle.minuska.proofs.ConfigurationLaw.{read-configuration-iff}
 
@@ -71,11 +72,11 @@ abbrev pub NumberWithin : {A : Type 0} → ℕ → Outcome A → Type 0
 NumberWithin n (refused r) = number r ≤ n
 NumberWithin n (gives x) = Unit {0}
 
-abbrev RowsWithin : ℕ → List Row → Type 0
+abbrev pub RowsWithin : ℕ → List Row → Type 0
 RowsWithin n [] = Unit {0}
 RowsWithin n (r ∷ rows) = (number (r .refusal) ≤ n) × RowsWithin n rows
 
-number-within : {A : Type 0} (n : ℕ) (rows : List Row) (o : Outcome A) → RowsWithin n rows → FirstGiven rows o → NumberWithin n o
+pub number-within : {A : Type 0} (n : ℕ) (rows : List Row) (o : Outcome A) → RowsWithin n rows → FirstGiven rows o → NumberWithin n o
 number-within {A} n [] o w h = subst⁻¹ (λ (p : Outcome A). NumberWithin n p) (h .1) tt
 number-within {A} n (r ∷ rows) o w (inl h) = subst⁻¹ (λ (p : Outcome A). NumberWithin n p) (h .0) (w .0)
 number-within n (r ∷ rows) o w (inr h) = number-within n rows o (w .1) (h .1)
@@ -146,7 +147,7 @@ module _ {A : Type 0} (ws cs : List ℤ) (rows : List Row) where
   unfolding number
   early-number o w = number-within 5 (wordRows ws cs rows) o (lit≤ tt, (lit≤ tt, w))
 
--- ---- its four uses
+-- ---- its uses
 bad-limit : (cs : List ℤ) (n : ℕ) (g : Term) → IsConfiguration cs g → Decides (limitRefused n g) ((h : Term) × IsConfiguration cs h × LimitOutside n h)
 bad-limit cs n g p =
     let d : Decides (limitRefused n g) (LimitOutside n g) =
@@ -155,6 +156,10 @@ bad-limit cs n g p =
     record { yes = λ e. (g, p, d .yes e); no = λ e h. d .no e (subst (LimitOutside n) (Option·some-injective (h .0) g (sym (read-configuration-iff cs (h .0) .1 (h .1)) ∙ read-configuration-iff cs g .1 p)) (h .2)) }
 
 module _ (ws cs : List ℤ) where
+  pub match-refuses : (n : ℕ) → FirstGiven (stepRows ws cs) (matchOutcome ws cs n)
+  unfolding matchOutcome
+  match-refuses n = words-first ws cs [] (λ t g. gives (matchRule t n g)) (λ t g p q. (matchRule t n g, refl))
+
   pub rule-refuses : (n out : ℕ) → FirstGiven (stepRows ws cs) (ruleOutcome ws cs n out)
   unfolding ruleOutcome
   rule-refuses n out = words-first ws cs [] (λ t g. gives (stepByRule t (outLimit out) n g)) (λ t g p q. (stepByRule t (outLimit out) n g, refl))

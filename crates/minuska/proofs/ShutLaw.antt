@@ -4,19 +4,24 @@ use mathlib.Core.List.{List}
 use Prim.Native.Nat.{ℕ, zero, suc, _*_}
 use lib.IntN.{ℤ}
 use lib.Dec.{ltb}
-use lib.ListN.{length}
+use lib.ListN.{length, getElem?}
 use Rattle.minuska.specs.Term.{Term, single, nodeCount}
 use Rattle.minuska.specs.Word.{encode}
 use Rattle.minuska.specs.Rule.{Table, maxSteps, maxActions}
 use Rattle.minuska.specs.Answer.{Refusal, refused, gives, stepped, RunResult, ReplayResult, reproduced, exceeded, notReproduced}
+use Rattle.minuska.specs.Computed.Compare.{matchNumbered, matchRule}
 use Rattle.minuska.specs.Computed.Step.{successorBy, earliest, next, order, answered, withNumber, stepByRule, step}
 use Rattle.minuska.specs.Computed.Run.{lastTurn, turn, run}
 use Rattle.minuska.specs.Computed.Replay.{search, replay}
 use Rattle.minuska.specs.Claim.{workWords}
 use Rattle.minuska.specs.Slice.{write, writeZeros, writeFilled, outLimit, stepOut, runOut, runSpare, replayOut, replayChoices, replayWork}
-use Rattle.minuska.specs.Computed.Outcome.{onWords, tested, sizeTests, limitRefused, runShort, replayShort, ruleOutcome, stepOutcome, runOutcome, replayOutcome}
+use Rattle.minuska.specs.Computed.Outcome.{onWords, tested, sizeTests, limitRefused, runShort, replayShort, matchOutcome, ruleOutcome, stepOutcome, runOutcome, replayOutcome}
 
 -- ---- the answers
+pub match-rule-is : (table : Table) (n : ℕ) (g : Term) → matchRule table n g ≡ matchNumbered (getElem? table n) g
+unfolding matchRule
+match-rule-is table n g = refl
+
 pub step-by-rule-is : (table : Table) (limit n : ℕ) (g : Term) → stepByRule table limit n g ≡ answered table limit (withNumber n (successorBy table n g))
 unfolding stepByRule
 step-by-rule-is table limit n g = refl
@@ -39,6 +44,10 @@ replay-is table limit log g = refl
 
 -- ---- the outcomes on words
 module _ (ws cs : List ℤ) where
+  pub match-outcome-is : (n : ℕ) → matchOutcome ws cs n ≡ onWords ws cs λ t g. gives (matchRule t n g)
+  unfolding matchOutcome
+  match-outcome-is n = refl
+
   pub rule-outcome-is : (n out : ℕ) → ruleOutcome ws cs n out ≡ onWords ws cs λ t g. gives (stepByRule t (outLimit out) n g)
   unfolding ruleOutcome
   rule-outcome-is n out = refl

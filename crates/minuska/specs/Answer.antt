@@ -37,6 +37,11 @@ pub data StepResult : Type 0 where
   stuck : StepResult
   tooLarge : StepResult
 
+-- A left matched, conditions aside, and how many of its nodes were compared (document 02, request 3).
+pub data MatchResult : Type 0 where
+  matched : ℕ → MatchResult
+  misfit : ℕ → MatchResult
+
 -- The run: k steps, the k-th configuration, and how it ended: stuck, spent, or with 6.
 pub data Ending : Type 0 where
   endsStuck endsSpent endsOver : Ending

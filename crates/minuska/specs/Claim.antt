@@ -1,15 +1,18 @@
 -- THE CLAIMS: what each answer means, over the relations alone, a field for each sentence. The computed answers meet them, and no others do (`proofs/`).
 use mathlib.Core.Path.{_≡_}
 use mathlib.Core.Logic.{_⊎_, _↔_}
+use mathlib.Core.Option.{none, some}
 use mathlib.Core.List.{List, [], _∷_}
 use Prim.Native.Nat.{ℕ, zero, suc, _+_, _*_, _≤_, _<_}
-use lib.ListN.{length}
+use lib.ListN.{length, getElem?}
 use lib.IntN.{ℤ}
-use Rattle.minuska.specs.Term.{Term, nodeCount}
-use Rattle.minuska.specs.Rule.{Table, maxNodes, maxSteps, maxActions, IsTable, IsConfiguration}
+use Rattle.minuska.specs.Term.{Term, single, nodeCount}
+use Rattle.minuska.specs.Satisfaction.{Valuation, Matches}
+use Rattle.minuska.specs.Misfit.{Disagrees}
+use Rattle.minuska.specs.Rule.{Rule, Table, maxNodes, maxSteps, maxActions, IsTable, IsConfiguration}
 use Rattle.minuska.specs.Rewriting.{RewritesBy, Earlier, First, Applies, NextAbove, Stuck}
 use Rattle.minuska.specs.Path.{Yields, Before, Exceeds}
-use Rattle.minuska.specs.Answer.{Check, Good, Refused, BadTable, BadConfiguration, TooLong, BadLimit, ShortBuffer, Row, Outcome, refused, gives, StepResult, stepped, stuck, tooLarge, endsStuck, endsSpent, endsOver, RunResult, ReplayResult, reproduced, exceeded, notReproduced}
+use Rattle.minuska.specs.Answer.{Check, Good, Refused, BadTable, BadConfiguration, TooLong, BadLimit, ShortBuffer, Row, Outcome, refused, gives, MatchResult, matched, misfit, StepResult, stepped, stuck, tooLarge, endsStuck, endsSpent, endsOver, RunResult, ReplayResult, reproduced, exceeded, notReproduced}
 
 -- The two checks: good exactly if there is such a table, such a configuration; else 1, 2.
 pub record TableClaim (ws : List ℤ) (x : Check) : Type 0 where
@@ -19,6 +22,15 @@ pub record TableClaim (ws : List ℤ) (x : Check) : Type 0 where
 pub record ConfigurationClaim (ws : List ℤ) (x : Check) : Type 0 where
   pub good : (x ≡ Good) ↔ ((g : Term) × IsConfiguration ws g)
   pub bad : (x ≡ Refused BadConfiguration) ↔ ((g : Term) → IsConfiguration ws g → ⊥)
+
+-- The left of one rule, conditions aside, and "how many left nodes it compared" (document 02, request 3).
+pub record MatchClaim (table : Table) (n : ℕ) (g : Term) (x : MatchResult) : Type 0 where
+  -- "all where the left fits,"
+  pub matches : (k : ℕ) → (x ≡ matched k) ↔ ((r : Rule) × (getElem? table n ≡ some r) × (k ≡ nodeCount (r .left)) × (ρ : Valuation) × Matches ρ (single (r .left)) (single g))
+  -- "else those up to and including the one that disagrees."
+  pub disagrees : (place : ℕ) → (x ≡ misfit (suc place)) ↔ ((r : Rule) × (getElem? table n ≡ some r) × Disagrees (r .left) g place)
+  -- A number that names no rule does not match, and no node is compared.
+  pub namesNone : (x ≡ misfit 0) ↔ (getElem? table n ≡ none)
 
 -- The step by one given rule: "it doesn't apply, or gives its successor, or that is too large. A number that names no rule doesn't apply."
 pub record RuleClaim (table : Table) (limit n : ℕ) (g : Term) (x : StepResult) : Type 0 where

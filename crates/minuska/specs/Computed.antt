@@ -1,5 +1,6 @@
 pub mod Read
 pub mod Match
+pub mod Compare
 pub mod Value
 pub mod Step
 pub mod Run

@@ -7,6 +7,7 @@ use mathlib.Core.List.{List, []}
 use Prim.Native.Nat.{ℕ, _*_}
 use lib.IntN.{ℤ}
 use lib.ListN.{length, take, drop}
+use Rattle.minuska.specs.declared.MatchAnswer.{MatchAnswer}
 use Rattle.minuska.specs.declared.StepAnswer.{StepAnswer}
 use Rattle.minuska.specs.declared.RunAnswer.{RunAnswer}
 use Rattle.minuska.specs.declared.ReplayAnswer.{ReplayAnswer}
@@ -14,10 +15,10 @@ use Rattle.minuska.specs.Term.{Term, single}
 use Rattle.minuska.specs.Subterm.{subtermAt}
 use Rattle.minuska.specs.Word.{encode}
 use Rattle.minuska.specs.Rule.{Table, IsTable, IsConfiguration}
-use Rattle.minuska.specs.Answer.{Check, Outcome, StepResult, RunResult, ReplayResult}
-use Rattle.minuska.specs.Claim.{TableClaim, ConfigurationClaim, RuleClaim, StepClaim, RunClaim, ReplayClaim, Meets, FirstGiven, stepRows, runRows, replayRows}
-use Rattle.minuska.specs.Slice.{outLimit, checkSays, stepSays, runSays, replaySays, outcomeSays, stepResultSays, runResultSays, replayResultSays, stepAnswer, stepOut, runAnswer, runOut, runSpare, replayAnswer, replayOut, replayChoices, replayWork}
-use Rattle.minuska.specs.Computed.Outcome.{tableCheck, configurationCheck, subtermWords, ruleOutcome, stepOutcome, runOutcome, replayOutcome}
+use Rattle.minuska.specs.Answer.{Check, Outcome, MatchResult, StepResult, RunResult, ReplayResult}
+use Rattle.minuska.specs.Claim.{TableClaim, ConfigurationClaim, MatchClaim, RuleClaim, StepClaim, RunClaim, ReplayClaim, Meets, FirstGiven, stepRows, runRows, replayRows}
+use Rattle.minuska.specs.Slice.{outLimit, checkSays, matchSays, stepSays, runSays, replaySays, outcomeSays, matchResultSays, stepResultSays, runResultSays, replayResultSays, matchAnswer, stepAnswer, stepOut, runAnswer, runOut, runSpare, replayAnswer, replayOut, replayChoices, replayWork}
+use Rattle.minuska.specs.Computed.Outcome.{tableCheck, configurationCheck, subtermWords, matchOutcome, ruleOutcome, stepOutcome, runOutcome, replayOutcome}
 
 -- "Each check says good, or 1 or 2."
 pub record CheckTableContract (table : List ℤ) (r : Check) : Type 0 where
@@ -38,6 +39,15 @@ pub record SubtermContract (config : List ℤ) (place : ℕ) (r : List ℤ) : Ty
   pub term : (g t : Term) → IsConfiguration config g → subtermAt (single g) place ≡ some t → r ≡ encode (single t)
   pub noNode : (g : Term) → IsConfiguration config g → subtermAt (single g) place ≡ none → r ≡ []
   pub malformed : ((g : Term) → IsConfiguration config g → ⊥) → r ≡ []
+
+-- The left of one rule: whether it matches, and how many of its nodes were compared (document 02, request 3). Nothing is written.
+pub record MatchRuleContract (table config : List ℤ) (n : ℕ) (r : MatchAnswer) : Type 0 where
+  pub outcome : Outcome MatchResult
+  pub is : outcome ≡ matchOutcome table config n
+  pub answer : r ≡ matchAnswer outcome
+  pub says : matchSays r ≡ outcomeSays matchResultSays outcome
+  pub claim : Meets table config (λ t g. MatchClaim t n g) outcome
+  pub refuses : FirstGiven (stepRows table config) outcome
 
 -- The step by one given rule: "its refusals and slices are otherwise the step's".
 pub record StepByRuleContract (table config : List ℤ) (n : ℕ) (out out′ : List ℤ) (r : StepAnswer) : Type 0 where

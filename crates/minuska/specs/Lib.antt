@@ -6,6 +6,7 @@ pub mod Word
 pub mod Nearest
 pub mod Function
 pub mod Satisfaction
+pub mod Misfit
 pub mod Rule
 pub mod Rewriting
 pub mod Path
@@ -13,7 +14,7 @@ pub mod Answer
 pub mod Claim
 pub mod Slice
 pub mod Subterm
--- Document 01's cases P1 to P12, and one of document 02, over the relations and the claims.
+-- Document 01's cases P1 to P12, and three of document 02, over the relations and the claims.
 pub mod Marked
 -- The same, computed: shown by `proofs/` to be what the files above say.
 pub mod Computed

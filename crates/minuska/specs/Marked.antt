@@ -1,4 +1,4 @@
--- P1 to P12, and a case of document 02: one table of cases, and what a case means, over the relations and demand 3's claim alone.
+-- P1 to P12, and cases of document 02: one table of cases, and what a case means, over the relations and demand 3's claim alone.
 use mathlib.Core.Path.{_≡_}
 use mathlib.Core.Bool.{Bool, true, false}
 use mathlib.Core.Logic.{_↔_}
@@ -11,6 +11,7 @@ use Rattle.minuska.specs.Basics.{Every}
 use Rattle.minuska.specs.Term.{Forest, Term, single}
 use Rattle.minuska.specs.Word.{encode}
 use Rattle.minuska.specs.Satisfaction.{Valuation, Matches, Evaluates}
+use Rattle.minuska.specs.Misfit.{Disagrees}
 use Rattle.minuska.specs.Rule.{Table, isSymbolic, isExpression, okTerm, IsTable, IsConfiguration}
 use Rattle.minuska.specs.Rewriting.{First, Stuck}
 use Rattle.minuska.specs.Answer.{OverLimit, number, reproduced, exceeded, notReproduced}
@@ -41,6 +42,8 @@ pub data Case : Type 0 where
   evaluates : List ℤ → List ℤ → Case
   -- a left's words and a configuration's: does it match?
   matches : List ℤ → List ℤ → Bool → Case
+  -- a left's words, a configuration's, and the place, from 0, of the left's node that disagrees
+  differs : List ℤ → List ℤ → ℕ → Case
   -- on the sample table: a configuration's words; then the rule, its action and the successor's words, or stuck
   steps : List ℤ → Option (ℕ × ℕ × List ℤ) → Case
   -- on the sample table and configuration: a log and a limit; then what is printed
@@ -75,7 +78,10 @@ cases =
     -- P12: log 10,10,20
     replays (10 ∷ 10 ∷ 20 ∷ []) 4 (lines (0 ∷ 1 ∷ 2 ∷ []) (words (9 ∷ 1 ∷ 2 ∷ 1 ∷ []))) ∷
     -- "5 over 2 gives 2" (document 02, request 2)
-    evaluates (words (4 ∷ 14 ∷ 2 ∷ 5 ∷ 2 ∷ 1 ∷ 2 ∷ 2 ∷ [])) (words (2 ∷ 2 ∷ [])) ∷ []
+    evaluates (words (4 ∷ 14 ∷ 2 ∷ 5 ∷ 2 ∷ 1 ∷ 2 ∷ 2 ∷ [])) (words (2 ∷ 2 ∷ [])) ∷
+    -- "a repeated variable's at its later place" (document 02, request 3): pair[X,X] and pair[3,4]; "another count": pair[pair[X],X] and pair[pair,3]
+    differs (words (10 ∷ 4 ∷ 3 ∷ 0 ∷ 3 ∷ 0 ∷ [])) (words (10 ∷ 4 ∷ 2 ∷ 3 ∷ 2 ∷ 4 ∷ [])) 2 ∷
+    differs (words (10 ∷ 4 ∷ 9 ∷ 4 ∷ 3 ∷ 0 ∷ 3 ∷ 0 ∷ [])) (words (10 ∷ 4 ∷ 8 ∷ 4 ∷ 2 ∷ 3 ∷ [])) 1 ∷ []
 
 -- WHAT A CASE MEANS. These words are that term, which is an expression, or has no call.
 pub record IsTerm (kind : Forest → Bool) (ws : List ℤ) (t : Term) : Type 0 where
@@ -107,6 +113,7 @@ Prints log limit (refusal n) table g = (number OverLimit ≡ n) × ReplayClaim t
 abbrev pub Means : Case → Type 0
 Means (evaluates e v) = (t : Term) × (g : Term) × IsTerm isExpression e t × IsConfiguration v g × Worth t g
 Means (matches l c b) = (t : Term) × (g : Term) × IsTerm isSymbolic l t × IsConfiguration c g × Fits b t g
+Means (differs l c place) = (t : Term) × (g : Term) × IsTerm isSymbolic l t × IsConfiguration c g × Disagrees t g place
 Means (steps c x) = (table : Table) × (g : Term) × IsTable sample table × IsConfiguration c g × Steps x table g
 Means (replays log limit x) = (table : Table) × (g : Term) × IsTable sample table × IsConfiguration initial g × Prints log limit x table g
 

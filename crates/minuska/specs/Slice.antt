@@ -5,6 +5,8 @@ use Prim.Native.Nat.{ℕ, _*_, _-_, _/_, min}
 use lib.IntN.{ℤ, pos}
 use lib.ListN.{length, drop, replicate}
 use Rattle.minuska.specs.declared.Check.the-variants as C
+use Rattle.minuska.specs.declared.MatchAnswer.{MatchAnswer}
+use Rattle.minuska.specs.declared.MatchAnswer.the-variants as M
 use Rattle.minuska.specs.declared.StepAnswer.{StepAnswer}
 use Rattle.minuska.specs.declared.StepAnswer.the-variants as S
 use Rattle.minuska.specs.declared.RunAnswer.{RunAnswer}
@@ -15,7 +17,7 @@ use Rattle.minuska.specs.Term.{Term, single, nodeCount}
 use Rattle.minuska.specs.Word.{encode}
 use Rattle.minuska.specs.Rule.{maxNodes}
 use Rattle.minuska.specs.Claim.{workWords}
-use Rattle.minuska.specs.Answer.{Refusal, OverLimit, number, Check, Outcome, refused, gives, StepResult, stepped, stuck, tooLarge, Ending, endsStuck, endsSpent, endsOver, RunResult, ReplayResult, reproduced, exceeded, notReproduced}
+use Rattle.minuska.specs.Answer.{Refusal, OverLimit, number, Check, Outcome, refused, gives, MatchResult, matched, misfit, StepResult, stepped, stuck, tooLarge, Ending, endsStuck, endsSpent, endsOver, RunResult, ReplayResult, reproduced, exceeded, notReproduced}
 
 -- WHAT IS SAID: document 01's number, 0 where nothing is refused, and the values that are returned with it.
 pub record Said : Type 0 where
@@ -32,6 +34,11 @@ turnedBack r values = record { number = number r; values = values }
 unfoldable pub checkSays : Check → Said
 checkSays C.Good = told []
 checkSays (C.Refused r) = turnedBack r []
+
+unfoldable pub matchSays : MatchAnswer → Said
+matchSays (M.Matches k) = told (k ∷ [])
+matchSays (M.Differs k) = told (k ∷ [])
+matchSays (M.Refused r) = turnedBack r []
 
 unfoldable pub stepSays : StepAnswer → Said
 stepSays (S.Stepped n a k) = told (n ∷ a ∷ k ∷ [])
@@ -54,6 +61,10 @@ abbrev pub outcomeSays : {A : Type 0} → (A → Said) → Outcome A → Said
 outcomeSays says (refused r) = turnedBack r []
 outcomeSays says (gives x) = says x
 
+abbrev pub matchResultSays : MatchResult → Said
+matchResultSays (matched k) = told (k ∷ [])
+matchResultSays (misfit k) = told (k ∷ [])
+
 abbrev pub stepResultSays : StepResult → Said
 stepResultSays (stepped n a h) = told (n ∷ a ∷ nodeCount h ∷ [])  -- "Answer: rule number, action, node count"
 stepResultSays stuck = told []
@@ -73,6 +84,11 @@ replayResultSays exceeded = turnedBack OverLimit []
 replayResultSays notReproduced = told []
 
 -- THE ANSWERS RETURNED: what each outcome is in the routine's enum.
+unfoldable pub matchAnswer : Outcome MatchResult → MatchAnswer
+matchAnswer (refused r) = M.Refused r
+matchAnswer (gives (matched k)) = M.Matches k
+matchAnswer (gives (misfit k)) = M.Differs k
+
 unfoldable pub stepAnswer : Outcome StepResult → StepAnswer
 stepAnswer (refused r) = S.Refused r
 stepAnswer (gives (stepped n a h)) = S.Stepped n a (nodeCount h)

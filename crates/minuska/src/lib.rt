@@ -47,6 +47,15 @@ pub enum StepAnswer {
     Refused(Refusal),
 }
 
+// A rule's left matched against a configuration, with how many of the left's nodes were compared (document 02, request 3).
+pub enum MatchAnswer {
+    // it matches, and all were
+    Matches(usize),
+    // it does not: those up to and including the first that disagrees; none where the number names no rule
+    Differs(usize),
+    Refused(Refusal),
+}
+
 // A run, with its count of steps; `Over` is refusal 6.
 pub enum RunAnswer {
     Stuck(usize),

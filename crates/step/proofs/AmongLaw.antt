@@ -21,7 +21,7 @@ use Rattle.minuska.specs.Computed.Match.{tryMatch, unbound}
 use Rattle.minuska.specs.Computed.Value.{value, holdAll}
 use Rattle.minuska.specs.Computed.Step.{successor, successorBy, answered, withNumber, sized, actionIn, orNext, firstOf, order, step}
 use Rattle.minuska.specs.Computed.Outcome.{ruleOutcome, stepOutcome}
-use Rattle.minuska.specs.Bridge.Place.{Indexed, Names, Accepted, RuleCountIs, OrderedIs, Positions, SeekIs}
+use Rattle.minuska.specs.Bridge.Place.{Indexed, Names, Accepted, RuleCountIs, OrderedIs, Positions, RootKeyIs, SeekIs}
 use Rattle.minuska.specs.Contract.{StepByRuleContract, StepContract}
 use Rattle.minuska.proofs.Tests.{came}
 use Rattle.minuska.proofs.ShutLaw.{step-is, step-outcome-is}
@@ -33,8 +33,8 @@ use Rattle.minuska.proofs.Bridge.PositionLaw.{element-at, element-there, order-
 use Rattle.table.proofs.IndexLaw.{positions-of}
 use Rattle.step.specs.declared.rule.Verdict.{Verdict}
 use Rattle.step.specs.declared.rule.Verdict.the-variants.{Applies}
-use Rattle.step.specs.Apply.{Candidate, Matched, SomeMatched, JudgeIs, Instantiated}
-use Rattle.step.specs.Among.{positions, AmongIs}
+use Rattle.step.specs.Apply.{Candidate, Matched, SomeMatched, verdictOf, missed, JudgeIs, Instantiated}
+use Rattle.step.specs.Among.{positions, KeyFor, AmongIs}
 use Rattle.step.proofs.ApplyLaw.{outcome-by, instantiated-answer, instantiated-out, unmatched, past-successor}
 
 -- ---- the order from a position on
@@ -73,7 +73,7 @@ position-names {ws} {index} {i} {to} {n} x s below o =
 
 -- ---- a rule that does not apply is passed over
 module _ (ws cs : List ℤ) (n : ℕ) (a : Names ws n) where
-  abbrev candidate : (t : Table) (g : Term) → IsTable ws t → IsConfiguration cs g → Candidate ws cs n (a .rule) g
+  abbrev pub candidate : (t : Table) (g : Term) → IsTable ws t → IsConfiguration cs g → Candidate ws cs n (a .rule) g
   candidate t g p q =
       record { table = t; is = p; numbered = subst (λ (u : Table). getElem? u n ≡ some (a .rule)) (one-table ws (a .table) t (a .is) p) (a .numbered); configuration = q }
 
@@ -110,14 +110,14 @@ module _ (ws cs : List ℤ) (n : ℕ) (a : Names ws n) where
         let z = applying e (x .table) (y .term) (x .is) (y .is) in record { rule = a .rule; configuration = y .term; valuation = z .valuation; is = z .matched }
 
 -- ---- positions that are passed over: the rules there do not apply
-module _ (ws cs : List ℤ) (from to r : ℕ) (s : SeekIs ws cs from to r) (b : Positions ws to) (t : Table) (g : Term) (p : IsTable ws t) (q : IsConfiguration cs g) where
+module _ (ws cs : List ℤ) (root from to r : ℕ) (s : SeekIs ws root from to r) (b : Positions ws to) (key : KeyFor cs to root) (t : Table) (g : Term) (p : IsTable ws t) (q : IsConfiguration cs g) where
   passed-none : (i n : ℕ) → from ≤ i → i < r → getElem? (order t) i ≡ some n → successorBy t n g ≡ none
   passed-none i n low below f =
       let k = b .there t p in
       let h : i < length (order t) = let z = s .high in omega arith in
       let e : getD (order t) i 0 ≡ n = Option·some-injective (getD (order t) i 0) n (sym (element-at (order t) 0 i h) ∙ f) in
       let (rule, x) = element-there t n (omega (arith, order-names t i h)) in
-      unmatched ws cs n rule g (record { table = t; is = p; numbered = x; configuration = q }) (root-misses (rule .left) g (s .passed .differ t rule g i n p q low below f x))
+      unmatched ws cs n rule g (record { table = t; is = p; numbered = x; configuration = q }) (root-misses (rule .left) g (s .passed .differ t rule g i n p (key .is (let z = s .high in omega arith) .is g q) low below f x))
 
   skip : (d i : ℕ) → i + d ≡ r → from ≤ i → firstOf t (positions i to t) g ≡ firstOf t (positions r to t) g
   skip zero i e low = ap (λ (k : ℕ). firstOf t (positions k to t) g) (let h : i ≡ r = omega arith in h)
@@ -133,31 +133,40 @@ module _ (ws cs : List ℤ) (from to r : ℕ) (s : SeekIs ws cs from to r) (b : 
 
 -- ---- a rule, then those at positions
 module _ (ws cs : List ℤ) (first from to : ℕ) where
-  -- the rules before this one, at the position before i, do not apply
+  -- the rules before this one, at the position before i, do not apply; with no positions there is only the first
   pub record Trying (rule i : ℕ) : Type 0 where
+    pub low : from ≤ i
+    pub only : from ≡ to → rule ≡ first
     pub same : (t : Table) (g : Term) → IsTable ws t → IsConfiguration cs g → firstOf t (first ∷ positions from to t) g ≡ firstOf t (rule ∷ positions i to t) g
 
   pub trying-first : Trying first from
-  trying-first = record { same = λ t g p q. refl }
+  trying-first = record { low = omega arith; only = λ e. refl; same = λ t g p q. refl }
+
+  -- what `AmongIs` says of a rule alone, from its verdict
+  abbrev pub Alone : ℕ → ℕ → Type 0
+  Alone misfit misfit′ = from ≡ to → misfit ≡ 0 → (rule : Rule) (g : Term) → Candidate ws cs first rule g → misfit′ ≡ missed (verdictOf rule g)
+
+  pub alone-by : {rule i : ℕ} → Trying rule i → (starts ends : List ℕ) (v : Verdict) → JudgeIs ws cs rule starts ends v → (misfit misfit′ : ℕ) → (from ≡ to → misfit ≡ 0 → misfit′ ≡ missed v) → Alone misfit misfit′
+  alone-by k starts ends v j misfit misfit′ f e z rule g c = f e z ∙ ap missed (j .answer rule g (subst (λ (n : ℕ). Candidate ws cs n rule g) (sym (k .only e)) c))
 
   module _ (rule i : ℕ) (k : Trying rule i) where
-    module _ (f : (t : Table) (g : Term) → IsTable ws t → IsConfiguration cs g → successorBy t rule g ≡ none) (r : ℕ) (s : SeekIs ws cs i to r) (b : Positions ws to) where
+    module _ (f : (t : Table) (g : Term) → IsTable ws t → IsConfiguration cs g → successorBy t rule g ≡ none) (root r : ℕ) (s : SeekIs ws root i to r) (b : Positions ws to) (key : KeyFor cs to root) where
       behind : (t : Table) (g : Term) → IsTable ws t → IsConfiguration cs g → firstOf t (first ∷ positions from to t) g ≡ firstOf t (positions r to t) g
-      behind t g p q = k .same t g p q ∙ (ap (λ (z : Option Term). orNext rule z (firstOf t (positions i to t) g)) (f t g p q) ∙ sought ws cs i to r s b t g p q)
+      behind t g p q = k .same t g p q ∙ (ap (λ (z : Option Term). orNext rule z (firstOf t (positions i to t) g)) (f t g p q) ∙ sought ws cs root i to r s b key t g p q)
 
       pub trying-on : (n : ℕ) → r < to → OrderedIs ws r n → Trying n (r + 1)
-      trying-on n below o = record { same = λ t g p q. behind t g p q ∙ ap (λ (l : List ℕ). firstOf t l g) (positions-next t r to p b below o) }
+      trying-on n below o = let l = k .low in let m = s .low in record { low = omega arith; only = λ e. absurd (let z : ⊥ = omega arith in z); same = λ t g p q. behind t g p q ∙ ap (λ (l : List ℕ). firstOf t l g) (positions-next t r to p b below o) }
 
-      pub none-applies : (out : List ℤ) → to ≤ r → AmongIs ws cs first from to out out S.Stuck
+      pub none-applies : (out : List ℤ) (misfit misfit′ : ℕ) → to ≤ r → Alone misfit misfit′ → AmongIs ws cs first from to out out misfit misfit′ S.Stuck
       unfolding stepAnswer stepOut
-      none-applies out past =
-          record { answer = λ t g p q. ap stepAnswer (sym (nothing t g p q)); leaves = λ t g p q. ap (λ (z : Outcome StepResult). stepOut z out) (sym (nothing t g p q)) }
+      none-applies out misfit misfit′ past a =
+          record { alone = a; answer = λ t g p q. ap stepAnswer (sym (nothing t g p q)); leaves = λ t g p q. ap (λ (z : Outcome StepResult). stepOut z out) (sym (nothing t g p q)) }
         where
           nothing : (t : Table) (g : Term) → IsTable ws t → IsConfiguration cs g → gives (answered t (outLimit (length out)) (firstOf t (first ∷ positions from to t) g)) ≡ gives stuck
           nothing t g p q = ap (λ (z : Option (ℕ × Term)). gives (answered t (outLimit (length out)) z)) (behind t g p q ∙ ap (λ (l : List ℕ). firstOf t l g) (positions-none t r to past))
 
     -- this one applies
-    module _ (a : Names ws rule) (starts ends : List ℕ) (v : Verdict) (j : JudgeIs ws cs rule starts ends v) (e : v ≡ Applies) (out out′ : List ℤ) (r : StepAnswer) (w : Instantiated ws cs rule starts ends out out′ r) where
+    module _ (a : Names ws rule) (starts ends : List ℕ) (v : Verdict) (j : JudgeIs ws cs rule starts ends v) (e : v ≡ Applies) (out out′ : List ℤ) (misfit misfit′ : ℕ) (r : StepAnswer) (w : Instantiated ws cs rule starts ends out out′ r) (only : Alone misfit misfit′) where
       abbrev limit : ℕ
       limit = outLimit (length out)
 
@@ -169,9 +178,10 @@ module _ (ws cs : List ℤ) (first from to : ℕ) where
           ap (λ (x : Option (ℕ × Term)). gives (answered t limit x)) (k .same t g p q ∙ ap (λ (x : Option Term). orNext rule x (firstOf t (positions i to t) g)) s) ∙
           ap (λ (x : Option Rule). gives (sized limit rule (actionIn x) (z .term))) (c .numbered)
 
-      pub one-applies : AmongIs ws cs first from to out out′ r
+      pub one-applies : AmongIs ws cs first from to out out′ misfit misfit′ r
       one-applies =
           record {
+            alone = only;
             answer = λ t g p q.
                 let z = applying ws cs rule a starts ends v j e t g p q in
                 w .answer (a .rule) g (z .valuation) (z .term) (z .matched) (z .worth) ∙ (instantiated-answer limit rule (a .rule .action) (z .term) out ∙ ap stepAnswer (sym (outcome t g p q)));
@@ -182,8 +192,8 @@ module _ (ws cs : List ℤ) (first from to : ℕ) where
 
 -- ---- the step by one rule: that rule alone
 module _ (ws cs : List ℤ) (index : List ℕ) (out : List ℤ) (x : Indexed ws index) (y : Accepted cs) where
-  pub by-that-rule : (n : ℕ) (out′ : List ℤ) (r : StepAnswer) → AmongIs ws cs n 0 0 out out′ r → StepByRuleContract ws cs n out out′ r
-  by-that-rule n out′ r k =
+  pub by-that-rule : (n : ℕ) (out′ : List ℤ) (misfit misfit′ : ℕ) (r : StepAnswer) → AmongIs ws cs n 0 0 out out′ misfit misfit′ r → StepByRuleContract ws cs n out out′ r
+  by-that-rule n out′ misfit misfit′ r k =
       let t = x .table in
       let g = y .term in
       let o : ruleOutcome ws cs n (length out) ≡ gives (answered t (outLimit (length out)) (firstOf t (n ∷ positions 0 0 t) g)) =
@@ -216,29 +226,29 @@ module _ (ws cs : List ℤ) (index : List ℕ) (out : List ℤ) (x : Indexed ws 
     pub every-position : Positions ws count
     every-position = positions-of ws count count c (omega arith)
 
-    outcome-first : (first : ℕ) → SeekIs ws cs 0 count first → stepOutcome ws cs (length out) ≡ gives (answered (x .table) (outLimit (length out)) (firstOf (x .table) (positions first count (x .table)) (y .term)))
-    outcome-first first s =
+    outcome-first : (root first : ℕ) → RootKeyIs cs root → SeekIs ws root 0 count first → stepOutcome ws cs (length out) ≡ gives (answered (x .table) (outLimit (length out)) (firstOf (x .table) (positions first count (x .table)) (y .term)))
+    outcome-first root first key s =
         let t = x .table in
         let g = y .term in
         step-outcome-is ws cs (length out) ∙
         (on-words ws cs t g (x .is) (y .is) (λ u h. gives (step u (outLimit (length out)) h)) ∙
         (ap {B = Outcome StepResult} gives (step-is t (outLimit (length out)) g) ∙
         ap (λ (z : Option (ℕ × Term)). gives (answered t (outLimit (length out)) z))
-        (ap (λ (l : List ℕ). firstOf t l g) (sym (positions-all t count (c .is t (x .is)))) ∙ sought ws cs 0 count first s every-position t g (x .is) (y .is))))
+        (ap (λ (l : List ℕ). firstOf t l g) (sym (positions-all t count (c .is t (x .is)))) ∙ sought ws cs root 0 count first s every-position (record { is = λ h. key }) t g (x .is) (y .is))))
 
-    module _ (first : ℕ) (s : SeekIs ws cs 0 count first) where
+    module _ (root first : ℕ) (key : RootKeyIs cs root) (s : SeekIs ws root 0 count first) where
       pub none-at-all : count ≤ first → StepContract ws cs out out S.Stuck
       unfolding stepAnswer stepOut
       none-at-all past =
           let t = x .table in
           let o : stepOutcome ws cs (length out) ≡ gives stuck =
-          outcome-first first s ∙ ap (λ (l : List ℕ). gives (answered t (outLimit (length out)) (firstOf t l (y .term)))) (positions-none t first count past) in
+          outcome-first root first key s ∙ ap (λ (l : List ℕ). gives (answered t (outLimit (length out)) (firstOf t l (y .term)))) (positions-none t first count past) in
           step-contract ws cs out out S.Stuck (ap stepAnswer (sym o)) (ap (λ (z : Outcome StepResult). stepOut z out) (sym o))
 
-      pub the-earliest : (n : ℕ) (out′ : List ℤ) (r : StepAnswer) → first < count → OrderedIs ws first n → AmongIs ws cs n (first + 1) count out out′ r → StepContract ws cs out out′ r
-      the-earliest n out′ r below o k =
+      pub the-earliest : (n : ℕ) (out′ : List ℤ) (misfit misfit′ : ℕ) (r : StepAnswer) → first < count → OrderedIs ws first n → AmongIs ws cs n (first + 1) count out out′ misfit misfit′ r → StepContract ws cs out out′ r
+      the-earliest n out′ misfit misfit′ r below o k =
           let t = x .table in
           let g = y .term in
           let w : stepOutcome ws cs (length out) ≡ gives (answered t (outLimit (length out)) (firstOf t (n ∷ positions (first + 1) count t) g)) =
-          outcome-first first s ∙ ap (λ (l : List ℕ). gives (answered t (outLimit (length out)) (firstOf t l g))) (positions-next t first count (x .is) every-position below o) in
+          outcome-first root first key s ∙ ap (λ (l : List ℕ). gives (answered t (outLimit (length out)) (firstOf t l g))) (positions-next t first count (x .is) every-position below o) in
           step-contract ws cs out out′ r (k .answer t g (x .is) (y .is) ∙ ap stepAnswer (sym w)) (k .leaves t g (x .is) (y .is) ∙ ap (λ (z : Outcome StepResult). stepOut z out) (sym w))

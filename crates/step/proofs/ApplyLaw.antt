@@ -30,15 +30,16 @@ use Rattle.minuska.proofs.Good.{good}
 use Rattle.minuska.proofs.StepLaw.{rule-okay}
 use Rattle.minuska.proofs.MatchLaw.{match-sound, matches-binds}
 use Rattle.minuska.proofs.ConditionLaw.{has-value}
-use Rattle.step.specs.declared.how_far.HowFar.{HowFar}
-use Rattle.step.specs.declared.how_far.HowFar.the-variants.{All, Until}
+use Rattle.step.specs.declared.conditions.HowFar.{HowFar}
+use Rattle.step.specs.declared.conditions.HowFar.the-variants.{All, Until}
+use Rattle.step.specs.declared.matching.Compared.the-variants as C
 use Rattle.step.specs.declared.rule.Verdict.the-variants.{Applies}
-use Rattle.step.specs.Compare.{Comparison, agreed, apart, comparison, passedBy, boundBy}
+use Rattle.step.specs.Matching.{comparedBy}
+use Rattle.minuska.specs.Computed.Compare.{Comparison, agreed, apart, comparison, boundBy}
 use Rattle.step.specs.Conditions.{allOf, heldBy}
 use Rattle.step.specs.Apply.{Candidate, instantiatedAs, instantiatedOut, verdictHeld, verdictBy, verdictOf}
-use Rattle.step.proofs.CompareLaw.{compare-match}
+use Rattle.minuska.proofs.CompareLaw.{compare-match}
 use Rattle.step.proofs.ConditionsLaw.{held-all}
-use Rattle.step.proofs.MatchingAnswer.{ground-good}
 
 -- ---- whether there is room, in nodes
 module _ (limit : ℕ) (h : Term) (b : Bool) (e : b ≡ leb (length (encode (single h))) (2 * limit)) where
@@ -89,16 +90,16 @@ module _ (ws cs : List ℤ) (n : ℕ) (rule : Rule) (g : Term) (a : Candidate ws
   by-rule s e = ap (λ (z : Option Rule). z >>= λ q. successor q g) (a .numbered) ∙ e
 
   matched-by : boundBy (comparison (rule .left) g) ≡ tryMatch (single (rule .left)) (single g) unbound
-  matched-by = compare-match (single (rule .left)) (single g) (good rule (rule-okay (a .table) (a .is .accepted) n rule (a .numbered)) .left .inRange) (ground-good (a .configuration)) unbound
+  matched-by = compare-match (single (rule .left)) (single g) unbound
 
   pub unmatched : tryMatch (single (rule .left)) (single g) unbound ≡ none → successorBy (a .table) n g ≡ none
   unmatched e = by-rule none (ap (λ (o : Option Valuation). o >>= λ ρ. cond (holdAll ρ (rule .conditions)) (value ρ (rule .right)) none) e)
 
   -- all of the left's nodes agree
-  pub matched-some : passedBy (comparison (rule .left) g) ≡ All → (ρ : Valuation) × (comparison (rule .left) g ≡ agreed ρ) × (tryMatch (single (rule .left)) (single g) unbound ≡ some ρ)
-  matched-some e = go (comparison (rule .left) g) refl e
+  pub matched-some : (k : ℕ) → comparedBy (rule .left) (comparison (rule .left) g) ≡ C.All k → (ρ : Valuation) × (comparison (rule .left) g ≡ agreed ρ) × (tryMatch (single (rule .left)) (single g) unbound ≡ some ρ)
+  matched-some k e = go (comparison (rule .left) g) refl e
     where
-      go : (c : Comparison) → comparison (rule .left) g ≡ c → passedBy c ≡ All → (ρ : Valuation) × (comparison (rule .left) g ≡ agreed ρ) × (tryMatch (single (rule .left)) (single g) unbound ≡ some ρ)
+      go : (c : Comparison) → comparison (rule .left) g ≡ c → comparedBy (rule .left) c ≡ C.All k → (ρ : Valuation) × (comparison (rule .left) g ≡ agreed ρ) × (tryMatch (single (rule .left)) (single g) unbound ≡ some ρ)
       go (agreed ρ) p q = (ρ, p, sym matched-by ∙ ap boundBy p)
       go (apart k) p q = absurd (let z : _≡_ {A = ℕ} 0 1 = cc in let f : ⊥ = omega arith in f)
 
@@ -124,7 +125,7 @@ module _ (ws cs : List ℤ) (n : ℕ) (rule : Rule) (g : Term) (a : Candidate ws
       go (apart k) m = (λ q. absurd (let z : _≡_ {A = ℕ} 0 1 = cc in let f : ⊥ = omega arith in f), λ x. absurd (Option·none-ne-some (x .0) (ap (λ (o : Option Valuation). o >>= λ ρ. cond (holdAll ρ (rule .conditions)) (value ρ (rule .right)) none) m ∙ x .1)))
 
 -- ---- numbers that name a rule, and those that do not
-past-none : (t : Table) (n : ℕ) → length t ≤ n → getElem? t n ≡ none
+pub past-none : (t : Table) (n : ℕ) → length t ≤ n → getElem? t n ≡ none
 past-none [] n h = refl
 past-none (r ∷ t) zero h = absurd (let f : ⊥ = omega arith in f)
 past-none (r ∷ t) (suc n) h = past-none t n (omega arith)

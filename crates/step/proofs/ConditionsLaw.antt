@@ -16,8 +16,8 @@ use Rattle.minuska.specs.Bridge.Place.{Stands}
 use Rattle.minuska.proofs.Bridge.PlaceLaw.{stands-first, stands-second}
 use Rattle.value.specs.declared.Tested.{Tested}
 use Rattle.value.specs.Evaluate.{HasValue, ConditionAt, ConditionIn, ConditionContract}
-use Rattle.step.specs.declared.how_far.HowFar.{HowFar}
-use Rattle.step.specs.declared.how_far.HowFar.the-variants.{All, Until}
+use Rattle.step.specs.declared.conditions.HowFar.{HowFar}
+use Rattle.step.specs.declared.conditions.HowFar.the-variants.{All, Until}
 use Rattle.step.specs.Conditions.{allOf, furtherBy, heldBy, SideWorth, StandingConditions, SomeConditions, HoldAllIs}
 
 -- ---- how far conditions hold

@@ -1,4 +1,3 @@
-pub mod CompareLaw
 pub mod MatchingLaw
 pub mod MatchingVariable
 pub mod MatchingAnswer
@@ -11,4 +10,5 @@ pub mod RuleLaw
 pub mod ApplyLaw
 pub mod WaysLaw
 pub mod AmongLaw
+pub mod LeftLaw
 pub mod AcceptLaw

@@ -1,7 +1,7 @@
 -- One turn of the walk over a left and a configuration, over terms: what it finds keeps the outcome of the match.
-use mathlib.Core.Path.{_≡_, refl, sym, _∙_, ap, ap₂, subst, subst⁻¹}
-use mathlib.Core.Bool.{Bool, true, false, _&&_}
-use mathlib.Core.Option.{Option, none, some}
+use mathlib.Core.Path.{_≡_, refl, sym, _∙_, ap, subst}
+use mathlib.Core.Bool.{Bool, true, false}
+use mathlib.Core.Option.{Option, none, some, Option·some-injective}
 use mathlib.Core.List.{List, [], _∷_, _++_}
 use Prim.Native.Nat.{ℕ, _+_, _-_, _<_, _≤_}
 use native.Mathlib.Nat.{add-zero}
@@ -12,24 +12,22 @@ use lib.ListN.{length, getD, length-append}
 use mir.Syntax.{w64}
 use mir.Val.{SFits, ofZ}
 use Rattle.term.proofs.SignedLaw.{same-bits}
-use Rattle.minuska.specs.Basics.{sameWhole}
 use Rattle.minuska.specs.Term.{Label, Forest, nil, node, Term, single, termCount, Role, aVariable, aCall, plain, role, groundAt}
-use Rattle.minuska.specs.Computed.Read.{variableTag}
+use Rattle.minuska.specs.Computed.Read.{readNode, variableTag}
 use Rattle.minuska.specs.Word.{tagWord, datumWord, okHead, ok, encode}
 use Rattle.minuska.specs.Satisfaction.{Valuation}
 use Rattle.minuska.specs.Rule.{symbolicAt}
 use Rattle.minuska.specs.Bridge.Place.{Stands, GroundAt, GroundEnds}
-use Rattle.minuska.proofs.Tests.{same-whole, whole-same}
 use Rattle.minuska.proofs.NodeLaw.{NodeIs, node-is}
-use Rattle.minuska.proofs.WordLaw.{childless, okay, okay-all, head-okay, appended, encode-appended}
+use Rattle.minuska.proofs.WordLaw.{read-node, childless, okay, okay-all, head-okay, appended, encode-appended}
 use Rattle.minuska.proofs.Bridge.PlaceLaw.{stands-word, stands-head, stands-first, stands-second}
 use Rattle.minuska.proofs.Bridge.UniqueLaw.{count-unique}
 use Rattle.minuska.proofs.Bridge.ShapeLaw.{ok-shapely}
 use Rattle.minuska.proofs.Bridge.AppendedLaw.{first-words, appended-count, appended-ok, labels, labels-all, appended-labels}
-use Rattle.step.specs.Compare.{Comparison, apart, later, compare}
+use Rattle.minuska.specs.Computed.Compare.{Comparison, apart, later, compare}
 use Rattle.step.specs.Matching.{Walk, Walking, TurnFrom, LeftTurned}
 use Rattle.step.specs.declared.matching.LeftTurn.the-variants.{Same, Misfit}
-use Rattle.step.proofs.CompareLaw.{later-later, same-node, compare-plain, compare-on}
+use Rattle.minuska.proofs.CompareLaw.{later-later, sameNode, same-node, compare-plain, compare-on}
 
 abbrev pub word : List ℤ → ℕ → ℤ
 word ws i = getD ws i (pos 0)
@@ -38,13 +36,12 @@ word ws i = getD ws i (pos 0)
 pub word-same : {a b x y : ℤ} → SFits w64 a → SFits w64 b → a ≡ x → b ≡ y → ofZ w64 a ≡ ofZ w64 b → x ≡ y
 word-same {a} {b} f g p q e = sym p ∙ (same-bits a b f g e ∙ q)
 
--- ---- words that are the same, or not
-is-same : (a b : ℤ) → a ≡ b → sameWhole a b ≡ true
-is-same a b e = pick (sameWhole a b) (subst (λ (x : ℤ). T (sameWhole a x)) e (whole-same a))
-  where
-    pick : (t : Bool) → T t → t ≡ true
-    pick true h = refl
-    pick false h = absurd h
+-- two nodes in range with the same words have the same label and as many children
+node-by-words : (l g : Label) (k m : ℕ) → T (okHead l k) → T (okHead g m) → tagWord l k ≡ tagWord g m → datumWord l ≡ datumWord g → (l ≡ g) × (k ≡ m)
+node-by-words l g k m x y p q =
+    let e : Path (Label × ℕ) (l, k) (g, m) =
+    Option·some-injective (l, k) (g, m) (sym (read-node l k x) ∙ (ap (λ (t : ℤ). readNode t (datumWord l)) p ∙ (ap (readNode (tagWord g m)) q ∙ read-node g m y))) in
+    (ap (λ (z : Label × ℕ). z .0) e, ap (λ (z : Label × ℕ). z .1) e)
 
 -- a left's label is a variable's, with its tag, or plain
 symbolic-plain : (l : Label) (k : ℕ) → T (okHead l k) → T (symbolicAt (role l)) → (tagWord l k ≡ pos variableTag → ⊥) → role l ≡ plain
@@ -120,7 +117,7 @@ module _ {table : List ℤ} {end : ℕ} {config : List ℤ} {i j : ℕ} {starts 
         let b = okay g gs gss (w .groundGood) in
         let c = labels (λ z. symbolicAt (role z)) l ls lss (w .leftSymbolic) in
         let d = labels (λ z. groundAt (role z)) g gs gss (w .groundGround) in
-        let m = same-node l g (termCount ls) (termCount gs) (head-okay l ls (a .allowed)) (head-okay g gs (b .allowed)) p′ q′ .1 in
+        let (same, m) = node-by-words l g (termCount ls) (termCount gs) (head-okay l ls (a .allowed)) (head-okay g gs (b .allowed)) p′ q′ in
         let many : termCount (appended ls lss) ≡ termCount (appended gs gss) = omega (arith, w .asMany, appended-count ls lss, appended-count gs gss) in
         let good = appended-ok ls lss (a .children) (a .rest) in
         let sound = appended-ok gs gss (b .children) (b .rest) in
@@ -143,23 +140,18 @@ module _ {table : List ℤ} {end : ℕ} {config : List ℤ} {i j : ℕ} {starts 
             free = w .free;
             outcome =
                 sym (later-later n 1 (compare (appended ls lss) (appended gs gss) σ)) ∙
-                (ap (later n) (sym (compare-on l ls lss g gs gss σ (plain-role f) (ap₂ _&&_ (is-same (tagWord l (termCount ls)) (tagWord g (termCount gs)) p′) (is-same (datumWord l) (datumWord g) q′)) m)) ∙ w .outcome);
+                (ap (later n) (sym (compare-on l ls lss g gs gss σ (plain-role f) same m)) ∙ w .outcome);
           };
         }
 
     after-other : (word table i ≡ pos variableTag → ⊥) → (word table i ≡ word config j → word table (i + 1) ≡ word config (j + 1) → ⊥) → o ≡ apart n
-    after-other f h = pick (sameWhole (tagWord l (termCount ls)) (tagWord g (termCount gs))) (sameWhole (datumWord l) (datumWord g)) refl refl
+    after-other f h = pick (sameNode l (termCount ls) g (termCount gs)) refl
       where
-        stopped : sameWhole (tagWord l (termCount ls)) (tagWord g (termCount gs)) && sameWhole (datumWord l) (datumWord g) ≡ false → o ≡ apart n
-        stopped e = sym (w .outcome) ∙ (ap (later n) (compare-plain l ls lss g gs gss σ (plain-role f) false e) ∙ ap apart (add-zero n))
-
-        pick : (a b : Bool) → sameWhole (tagWord l (termCount ls)) (tagWord g (termCount gs)) ≡ a → sameWhole (datumWord l) (datumWord g) ≡ b → o ≡ apart n
-        pick true true p q =
-            absurd
-            (h (left-tag ∙ (same-whole (tagWord l (termCount ls)) (tagWord g (termCount gs)) (subst⁻¹ T p tt) ∙ sym ground-tag))
-            (left-datum ∙ (same-whole (datumWord l) (datumWord g) (subst⁻¹ T q tt) ∙ sym ground-datum)))
-        pick true false p q = stopped (ap₂ _&&_ p q)
-        pick false b p q = stopped (ap (λ (z : Bool). z && sameWhole (datumWord l) (datumWord g)) p)
+        pick : (b : Bool) → sameNode l (termCount ls) g (termCount gs) ≡ b → o ≡ apart n
+        pick true e =
+            let (p, q) = same-node l g (termCount ls) (termCount gs) e in
+            absurd (h (left-tag ∙ (ap (λ (z : Label). tagWord z (termCount ls)) p ∙ (ap (tagWord g) q ∙ sym ground-tag))) (left-datum ∙ (ap datumWord p ∙ sym ground-datum)))
+        pick false e = sym (w .outcome) ∙ (ap (later n) (compare-plain l ls lss g gs gss σ (plain-role f) false e) ∙ ap apart (add-zero n))
 
 -- ---- what one turn answers at a plain node
 module _ {table : List ℤ} {i end : ℕ} {config : List ℤ} {j : ℕ} {starts ends : List ℕ} (plain : word table i ≡ pos variableTag → ⊥) where

@@ -25,10 +25,10 @@ use Rattle.minuska.proofs.NodeLaw.{variable-tag, variable-label}
 use Rattle.minuska.proofs.WordLaw.{okay, head-okay, childless}
 use Rattle.minuska.proofs.Bridge.PlaceLaw.{stands-second, stands-unique}
 use Rattle.minuska.proofs.Bridge.AppendedLaw.{first-words, labels}
-use Rattle.step.specs.Compare.{Comparison, apart, later, after, compareBound, compare}
+use Rattle.minuska.specs.Computed.Compare.{Comparison, apart, later, after, compareBound, compare}
 use Rattle.step.specs.Matching.{Walk, Walking, TurnFrom, Put, LeftTurned}
 use Rattle.step.specs.declared.matching.LeftTurn.the-variants.{Bind, Again, Misfit}
-use Rattle.step.proofs.CompareLaw.{later-later}
+use Rattle.minuska.proofs.CompareLaw.{later-later}
 use Rattle.step.proofs.MatchingLaw.{word, has-part, heads, left-tag, left-datum, words-here, good-here, term-at}
 
 module _ {table : List ℤ} {end : ℕ} {config : List ℤ} {i j : ℕ} {starts ends : List ℕ} {n : ℕ} {o : Comparison} where

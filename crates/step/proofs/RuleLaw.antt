@@ -32,7 +32,8 @@ use Rattle.step.specs.Apply.{Matched, SomeMatched, MatchIs, HoldIs, Fits
 use Rattle.step.specs.Matching.{IsLeft, LeftIn, MatchContract}
 use Rattle.step.specs.Conditions.{SidesWorth, StandingConditions, SomeConditions, HoldAllIs}
 use Rattle.step.specs.Right.{Rest, SomeRest, MeasureRightIs, FittingRest, WriteRightIs}
-use Rattle.step.specs.declared.how_far.HowFar.{HowFar}
+use Rattle.step.specs.declared.conditions.HowFar.{HowFar}
+use Rattle.step.specs.declared.matching.Compared.{Compared}
 use Rattle.step.proofs.RoomLaw.{words-most}
 
 -- the greater of two numbers is at least each, and at most both together
@@ -53,7 +54,7 @@ module _ (ws : List ℤ) (n : ℕ) where
     pub left-in : Names ws n → LeftIn ws from to
     left-in a = record { left = a .rule .left; is = is-left (a .table) (a .rule) (a .is) (a .numbered) }
 
-    pub match-is : (cs : List ℤ) (starts starts′ ends′ : List ℕ) (r : HowFar) → MatchContract ws from to cs starts starts′ ends′ r → MatchIs ws cs n starts′ ends′ r
+    pub match-is : (cs : List ℤ) (starts starts′ ends′ : List ℕ) (r : Compared) → MatchContract ws from to cs starts starts′ ends′ r → MatchIs ws cs n starts′ ends′ r
     match-is cs starts starts′ ends′ r m =
         record {
           answer = λ rule g a. m .each (rule .left) g (is-left (a .table) rule (a .is) (a .numbered)) (a .configuration) .answer;

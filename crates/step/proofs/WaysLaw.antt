@@ -20,11 +20,14 @@ use Rattle.minuska.specs.Computed.Value.{value}
 use Rattle.minuska.specs.Computed.Step.{successor}
 use Rattle.minuska.specs.Bridge.Place.{Names, Accepted, Binds, ActionIs}
 use Rattle.minuska.proofs.Bridge.AcceptedLaw.{term-length}
-use Rattle.step.specs.declared.how_far.HowFar.{HowFar}
-use Rattle.step.specs.declared.how_far.HowFar.the-variants.{All, Until}
+use Rattle.step.specs.declared.conditions.HowFar.{HowFar}
+use Rattle.step.specs.declared.conditions.HowFar.the-variants.{All, Until}
+use Rattle.step.specs.declared.matching.Compared.{Compared}
+use Rattle.step.specs.declared.matching.Compared.the-variants as C
 use Rattle.step.specs.declared.rule.Verdict.{Verdict}
+use Rattle.step.specs.Matching.{comparedBy}
 use Rattle.step.specs.declared.rule.Verdict.the-variants.{Misfit, Applies}
-use Rattle.step.specs.Compare.{Comparison, agreed, apart, comparison, passedBy}
+use Rattle.minuska.specs.Computed.Compare.{Comparison, agreed, apart, comparison}
 use Rattle.step.specs.Apply.{Candidate, Matched, SomeMatched, MatchIs, HoldIs, verdictHeld, verdictBy, verdictOf, JudgeIs, FitsIs, WordsFit, WriteIs, Instantiated}
 use Rattle.step.proofs.ApplyLaw.{too-large, words-fit, as-large, as-stepped, matched-some, verdict-applies}
 
@@ -58,18 +61,18 @@ module _ (ws cs : List ℤ) (n : ℕ) (starts ends : List ℕ) where
   judged r e b =
       record { answer = e; applies = λ rule g a. subst (λ (v : Verdict). (v ≡ Applies) ↔ ((h : Term) × (successor rule g ≡ some h))) (sym (e rule g a)) (verdict-applies ws cs n rule g a); binds = b }
 
-  module _ (p : HowFar) (m : MatchIs ws cs n starts ends p) where
-    pub way-misfit : (k : ℕ) → p ≡ Until k → JudgeIs ws cs n starts ends (Misfit k)
-    way-misfit k e = judged (Misfit k) (λ rule g a. pick (rule .conditions) (comparison (rule .left) g) (sym (m .answer rule g a) ∙ e)) (m .binds)
+  module _ (p : Compared) (m : MatchIs ws cs n starts ends p) where
+    pub way-misfit : (k : ℕ) → p ≡ C.Until k → JudgeIs ws cs n starts ends (Misfit k)
+    way-misfit k e = judged (Misfit k) (λ rule g a. pick (rule .left) (rule .conditions) (comparison (rule .left) g) (sym (m .answer rule g a) ∙ e)) (m .binds)
       where
-        pick : (conds : List SideCondition) (c : Comparison) → passedBy c ≡ Until k → Misfit k ≡ verdictBy conds c
-        pick conds (agreed ρ) q = absurd (let z : _≡_ {A = ℕ} 0 1 = cc in let f : ⊥ = omega arith in f)
-        pick conds (apart j) q = cc
+        pick : (l : Term) (conds : List SideCondition) (c : Comparison) → comparedBy l c ≡ C.Until k → Misfit k ≡ verdictBy conds c
+        pick l conds (agreed ρ) q = absurd (let z : _≡_ {A = ℕ} 0 1 = cc in let f : ⊥ = omega arith in f)
+        pick l conds (apart j) q = cc
 
-    module _ (all : p ≡ All) where
+    module _ (k : ℕ) (all : p ≡ C.All k) where
       matching : (rule : Rule) (g : Term) (a : Candidate ws cs n rule g) → (ρ : Valuation) × (comparison (rule .left) g ≡ agreed ρ) × Matched ws cs n starts ends rule g ρ
       matching rule g a =
-          let (ρ, c, e) = matched-some ws cs n rule g a (sym (m .answer rule g a) ∙ all) in
+          let (ρ, c, e) = matched-some ws cs n rule g a k (sym (m .answer rule g a) ∙ all) in
           (ρ, c, record { at = a; matched = e; binds = m .binds rule g ρ a e })
 
       pub some-matched : Names ws n → Accepted cs → SomeMatched ws cs n starts ends

@@ -4,7 +4,7 @@ use mathlib.Core.Bool.{Bool, cond}
 use mathlib.Core.Logic.{_↔_}
 use mathlib.Core.Option.{some}
 use mathlib.Core.List.{List}
-use Prim.Native.Nat.{ℕ, _≤_}
+use Prim.Native.Nat.{ℕ, suc, _≤_}
 use lib.IntN.{ℤ}
 use lib.Dec.{leb}
 use lib.ListN.{length, getElem?}
@@ -17,14 +17,16 @@ use Rattle.minuska.specs.declared.StepAnswer.{StepAnswer}
 use Rattle.minuska.specs.declared.StepAnswer.the-variants as S
 use Rattle.minuska.specs.declared.Refusal.the-variants.{OverLimit}
 use Rattle.minuska.specs.Computed.Match.{tryMatch, unbound}
+use Rattle.minuska.specs.Computed.Compare.{Comparison, agreed, apart, comparison}
 use Rattle.minuska.specs.Computed.Value.{value}
 use Rattle.minuska.specs.Computed.Step.{successor}
 use Rattle.minuska.specs.Bridge.Place.{Binds}
-use Rattle.step.specs.declared.how_far.HowFar.{HowFar}
-use Rattle.step.specs.declared.how_far.HowFar.the-variants.{All, Until}
+use Rattle.step.specs.declared.conditions.HowFar.{HowFar}
+use Rattle.step.specs.declared.conditions.HowFar.the-variants.{All, Until}
+use Rattle.step.specs.declared.matching.Compared.{Compared}
 use Rattle.step.specs.declared.rule.Verdict.{Verdict}
 use Rattle.step.specs.declared.rule.Verdict.the-variants.{Misfit, Fails, Applies}
-use Rattle.step.specs.Compare.{Comparison, agreed, apart, comparison, passedBy}
+use Rattle.step.specs.Matching.{comparedBy}
 use Rattle.step.specs.Conditions.{heldBy}
 
 -- rule number n of the table that the words are, and the configuration that they are
@@ -47,26 +49,32 @@ pub record SomeMatched (ws cs : List ℤ) (n : ℕ) (starts ends : List ℕ) : T
   pub valuation : Valuation
   pub is : Matched ws cs n starts ends rule configuration valuation
 
--- the left's answer: how far it agrees, and, if it matches, where the variables' terms stand
-pub record MatchIs (ws cs : List ℤ) (n : ℕ) (starts′ ends′ : List ℕ) (r : HowFar) : Type 0 where
-  pub answer : (rule : Rule) (g : Term) → Candidate ws cs n rule g → r ≡ passedBy (comparison (rule .left) g)
+-- the left's answer: how many of its nodes were compared, and, if it matches, where the variables' terms stand
+pub record MatchIs (ws cs : List ℤ) (n : ℕ) (starts′ ends′ : List ℕ) (r : Compared) : Type 0 where
+  pub answer : (rule : Rule) (g : Term) → Candidate ws cs n rule g → r ≡ comparedBy (rule .left) (comparison (rule .left) g)
   pub binds : (rule : Rule) (g : Term) (ρ : Valuation) → Candidate ws cs n rule g → tryMatch (single (rule .left)) (single g) unbound ≡ some ρ → Binds cs starts′ ends′ ρ
 
 -- the conditions' answer: how far they hold
 pub record HoldIs (ws cs : List ℤ) (n : ℕ) (starts ends : List ℕ) (r : HowFar) : Type 0 where
   pub is : (rule : Rule) (g : Term) (ρ : Valuation) → Matched ws cs n starts ends rule g ρ → r ≡ heldBy ρ (rule .conditions)
 
--- both: the first left node that disagrees, or else the first condition that fails, or else that the rule applies
+-- both: how far the left was compared up to a node that disagrees, or else the first condition that fails, or else that the rule applies
 abbrev pub verdictHeld : HowFar → Verdict
 verdictHeld All = Applies
 verdictHeld (Until k) = Fails k
 
 abbrev pub verdictBy : List SideCondition → Comparison → Verdict
 verdictBy conds (agreed ρ) = verdictHeld (heldBy ρ conds)
-verdictBy conds (apart k) = Misfit k
+verdictBy conds (apart k) = Misfit (suc k)
 
 abbrev pub verdictOf : Rule → Term → Verdict
 verdictOf rule g = verdictBy (rule .conditions) (comparison (rule .left) g)
+
+-- how many of the left's nodes were compared where they disagree, else 0
+abbrev pub missed : Verdict → ℕ
+missed (Misfit k) = k
+missed (Fails k) = 0
+missed Applies = 0
 
 -- the verdict; it applies exactly if there is a successor, and then the arrays hold where the variables' terms stand
 pub record JudgeIs (ws cs : List ℤ) (n : ℕ) (starts′ ends′ : List ℕ) (r : Verdict) : Type 0 where

@@ -13,8 +13,8 @@ use Rattle.minuska.specs.Satisfaction.{Valuation, SideCondition}
 use Rattle.minuska.specs.Rule.{isExpression, conditionWords}
 use Rattle.minuska.specs.Computed.Value.{value, holds}
 use Rattle.minuska.specs.Bridge.Place.{Stands, Binds}
-use Rattle.step.specs.declared.how_far.HowFar.{HowFar}
-use Rattle.step.specs.declared.how_far.HowFar.the-variants.{All, Until}
+use Rattle.step.specs.declared.conditions.HowFar.{HowFar}
+use Rattle.step.specs.declared.conditions.HowFar.the-variants.{All, Until}
 
 -- how far they hold, in their order: all, or up to the first that fails
 abbrev pub furtherBy : ℕ → HowFar → HowFar

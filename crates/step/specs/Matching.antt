@@ -3,21 +3,21 @@ use mathlib.Core.Path.{_≡_}
 use mathlib.Core.Logic.{_↔_}
 use mathlib.Core.Option.{none, some}
 use mathlib.Core.List.{List}
-use Prim.Native.Nat.{ℕ, _+_, _<_, _≤_}
+use Prim.Native.Nat.{ℕ, suc, _+_, _<_, _≤_}
 use lib.IntN.{ℤ}
 use lib.Dec.{T}
 use lib.ListN.{length, getD}
-use Rattle.minuska.specs.Term.{Forest, Term, single, termCount, isGround}
+use Rattle.minuska.specs.Term.{Forest, Term, single, termCount, nodeCount, isGround}
 use Rattle.minuska.specs.Word.{ok, encode}
 use Rattle.minuska.specs.Satisfaction.{Valuation, Matches}
 use Rattle.minuska.specs.Rule.{isSymbolic, IsConfiguration}
 use Rattle.minuska.specs.Computed.Match.{unbound, tryMatch}
+use Rattle.minuska.specs.Computed.Compare.{Comparison, agreed, apart, later, compare, comparison}
 use Rattle.minuska.specs.Bridge.Place.{Stands, BoundAt, Binds}
-use Rattle.step.specs.declared.how_far.HowFar.{HowFar}
-use Rattle.step.specs.declared.how_far.HowFar.the-variants.{All}
+use Rattle.step.specs.declared.matching.Compared.{Compared}
+use Rattle.step.specs.declared.matching.Compared.the-variants.{All, Until}
 use Rattle.step.specs.declared.matching.LeftTurn.{LeftTurn}
 use Rattle.step.specs.declared.matching.LeftTurn.the-variants.{Same, Bind, Again, Misfit}
-use Rattle.step.specs.Compare.{Comparison, apart, later, compare, comparison, passedBy}
 
 -- An accepted left stands in a table from a place up to its end.
 pub record IsLeft (table : List ℤ) (at end : ℕ) (l : Term) : Type 0 where
@@ -30,17 +30,22 @@ pub record LeftIn (table : List ℤ) (at end : ℕ) : Type 0 where
   pub left : Term
   pub is : IsLeft table at end left
 
--- The answer for a left and a configuration: how far its nodes agree. So it says whether some valuation satisfies the left ("a left fits a configuration
+-- How many of a left's nodes are compared: all where they agree, else those up to and including the first that does not.
+abbrev pub comparedBy : Term → Comparison → Compared
+comparedBy l (agreed ρ) = All (nodeCount l)
+comparedBy l (apart k) = Until (suc k)
+
+-- The answer for a left and a configuration: how many nodes were compared, and whether all agree. So it says whether some valuation satisfies the left ("a left fits a configuration
 -- under a valuation"). Of a match the arrays hold its valuation, with end 0 for a variable that the left has not.
-pub record LeftMatched (config : List ℤ) (l g : Term) (starts′ ends′ : List ℕ) (r : HowFar) : Type 0 where
-  pub answer : r ≡ passedBy (comparison l g)
-  pub claim : (r ≡ All) ↔ ((ρ : Valuation) × Matches ρ (single l) (single g))
+pub record LeftMatched (config : List ℤ) (l g : Term) (starts′ ends′ : List ℕ) (r : Compared) : Type 0 where
+  pub answer : r ≡ comparedBy l (comparison l g)
+  pub claim : (r ≡ All (nodeCount l)) ↔ ((ρ : Valuation) × Matches ρ (single l) (single g))
   pub binds : (ρ : Valuation) → tryMatch (single l) (single g) unbound ≡ some ρ → Binds config starts′ ends′ ρ
   pub free : (ρ : Valuation) → tryMatch (single l) (single g) unbound ≡ some ρ → (v : ℕ) → ρ v ≡ none → getD ends′ v 0 ≡ 0
 
 -- THE CONTRACT, for every left and configuration that stand there. What the arrays held does not matter. After either answer a term of the
 -- configuration stands where an end is not 0; where it is 0 the start keeps.
-pub record MatchContract (table : List ℤ) (at end : ℕ) (config : List ℤ) (starts starts′ ends′ : List ℕ) (r : HowFar) : Type 0 where
+pub record MatchContract (table : List ℤ) (at end : ℕ) (config : List ℤ) (starts starts′ ends′ : List ℕ) (r : Compared) : Type 0 where
   pub each : (l g : Term) → IsLeft table at end l → IsConfiguration config g → LeftMatched config l g starts′ ends′ r
   pub parts : (v : ℕ) → (getD ends′ v 0 ≡ 0 → ⊥) → (t : Term) × BoundAt config (getD starts′ v 0) (getD ends′ v 0) v t
   pub keeps : (v : ℕ) → getD ends′ v 0 ≡ 0 → getD starts′ v 0 ≡ getD starts v 0

@@ -1,7 +1,14 @@
 // A rule's conditions, one after the other.
-use crate::how_far::HowFar;
 use term::Places;
 ghost use Rattle.step.specs.Conditions.{SomeConditions, HoldAllIs};
+
+// How far conditions hold, one after the other.
+pub enum HowFar {
+    // all of them
+    All,
+    // those before the one of this number, from 0, which fails
+    Until(usize),
+}
 
 // Whether all conditions that stand from a place up to another hold.
 pub fn hold_all<'a>(

@@ -1,6 +1,5 @@
-// One step: by a given rule, and by the earliest that applies.
+// One rule's left against a configuration; one step: by a given rule, and by the earliest that applies.
 mod conditions;
-mod how_far;
 mod matching;
 mod right;
 mod rule;
@@ -8,6 +7,7 @@ mod rule;
 use minuska::Check;
 use minuska::INDEX_LEN;
 use minuska::Index;
+use minuska::MatchAnswer;
 use minuska::Refusal;
 use minuska::StepAnswer;
 use minuska::limits::MAX_CONFIGURATION_WORDS;
@@ -16,12 +16,47 @@ use term::Places;
 use term::VARIABLES;
 ghost use mathlib.Core.Path.{_≡_};
 ghost use Prim.Native.Nat.{_≤_};
-ghost use Rattle.minuska.specs.Contract.{StepByRuleContract, StepContract};
+ghost use Rattle.minuska.specs.Contract.{MatchRuleContract, StepByRuleContract, StepContract};
 ghost use Rattle.minuska.specs.Bridge.Place.{Indexed, Names, Accepted, RuleCountIs, ActionIs, OrderedIs, Positions};
 ghost use Rattle.minuska.specs.Slice.{outLimit};
 ghost use Rattle.step.specs.Accept.{AcceptContract};
 ghost use Rattle.step.specs.Apply.{SomeMatched, Instantiated};
-ghost use Rattle.step.specs.Among.{AmongIs};
+ghost use Rattle.step.specs.Among.{KeyFor, AmongIs};
+
+// A rule's left against the configuration, of checked words. The rule is tried as a step tries it, with no room for a successor: so the walk over a left has one
+// place in the compiled code, where it is inlined.
+pub fn compare_rule<'a>(
+    table: &'a [i64],
+    index: &Index,
+    configuration: &'a [i64],
+    rule: usize,
+) -> MatchAnswer
+    requires { ⌜ Indexed (now table) (now index) × Accepted (now configuration) ⌝ }
+    ensures { λ r. ⌜ MatchRuleContract (now (table .entry)) (now (configuration .entry)) rule r ⌝ }
+{
+    let count = table::rule_count(table, index);
+    if count <= rule {
+        return MatchAnswer::Differs(0);
+    }
+    let mut none = [0i64; 1];
+    let mut misfit = 0;
+    apply_among(
+        table,
+        index,
+        configuration,
+        rule,
+        0,
+        0,
+        0,
+        &mut none[0..0],
+        &mut misfit,
+    );
+    if misfit != 0 {
+        return MatchAnswer::Differs(misfit);
+    }
+    let left = table::index::left(table, index, rule);
+    MatchAnswer::Matches((left.to - left.from) / 2)
+}
 
 // The step by one given rule, of checked words.
 pub fn apply_rule<'a>(
@@ -37,7 +72,8 @@ pub fn apply_rule<'a>(
     if table::rule_count(table, index) <= rule {
         return StepAnswer::Stuck;
     }
-    apply_among(table, index, configuration, rule, 0, 0, out)
+    let mut misfit = 0;
+    apply_among(table, index, configuration, rule, 0, 0, 0, out, &mut misfit)
 }
 
 // The step, of checked words.
@@ -50,16 +86,29 @@ pub fn apply_earliest<'a>(
     requires { ⌜ Indexed (now table) (now index) × Accepted (now configuration) ⌝ }
     ensures { λ r. ⌜ StepContract (now (table .entry)) (now (configuration .entry)) (now (out .entry)) (now (out .exit)) r ⌝ }
 {
+    let root = table::key::root(configuration);
     let count = table::rule_count(table, index);
-    let first = table::key::seek(table, index, configuration, 0, count);
+    let first = table::key::seek(table, index, root, 0, count);
     if count <= first {
         return StepAnswer::Stuck;
     }
     let rule = table::ordered(table, index, first);
-    apply_among(table, index, configuration, rule, first + 1, count, out)
+    let mut misfit = 0;
+    apply_among(
+        table,
+        index,
+        configuration,
+        rule,
+        first + 1,
+        count,
+        root,
+        out,
+        &mut misfit,
+    )
 }
 
-// The first that applies of a rule and of those at the positions behind it, from one up to another.
+// The first that applies of a rule and of those at the positions behind it, from one up to another; the configuration's root has the key `root`. Of a rule alone
+// that does not apply, `misfit` says how many of its left's nodes were compared if they disagree, and is 0 if they agree.
 fn apply_among<'a>(
     table: &'a [i64],
     index: &Index,
@@ -67,11 +116,13 @@ fn apply_among<'a>(
     first: usize,
     from: usize,
     to: usize,
+    root: usize,
     out: &mut [i64],
+    misfit: &mut usize,
 ) -> StepAnswer
     requires { ⌜ Indexed (now table) (now index) × Accepted (now configuration) ⌝ }
-    requires { ⌜ Names (now table) first × Positions (now table) to × (from ≤ to) ⌝ }
-    ensures { λ r. ⌜ AmongIs (now (table .entry)) (now (configuration .entry)) first from to (now (out .entry)) (now (out .exit)) r ⌝ }
+    requires { ⌜ Names (now table) first × Positions (now table) to × (from ≤ to) × KeyFor (now configuration) to root ⌝ }
+    ensures { λ r. ⌜ AmongIs (now (table .entry)) (now (configuration .entry)) first from to (now (out .entry)) (now (out .exit)) (now (misfit .entry)) (now (misfit .exit)) r ⌝ }
 {
     let mut starts = [0u32; VARIABLES];
     let mut ends = [0u32; VARIABLES];
@@ -82,7 +133,8 @@ fn apply_among<'a>(
         if rule::applies(verdict) {
             return write_within(table, index, configuration, rule, &starts, &ends, out);
         }
-        i = table::key::seek(table, index, configuration, i, to);
+        *misfit = rule::misfit(verdict);
+        i = table::key::seek(table, index, root, i, to);
         if to <= i {
             return StepAnswer::Stuck;
         }
@@ -134,6 +186,17 @@ pub fn accept(table: &[i64], configuration: &[i64], index: &mut Index) -> Check
     match table::index_table(table, index) {
         Check::Good => term::check_configuration(configuration),
         Check::Refused(r) => Check::Refused(r),
+    }
+}
+
+// Whether a rule's left matches the configuration, conditions aside, and how many of its nodes were compared. A number that names no rule does not match.
+pub fn match_rule<'a>(table: &'a [i64], configuration: &'a [i64], rule: usize) -> MatchAnswer
+    ensures { λ r. ⌜ MatchRuleContract (now (table .entry)) (now (configuration .entry)) rule r ⌝ }
+{
+    let mut index = [0u16; INDEX_LEN];
+    match accept(table, configuration, &mut index) {
+        Check::Good => compare_rule(table, &index, configuration, rule),
+        Check::Refused(r) => MatchAnswer::Refused(r),
     }
 }
 

@@ -1,5 +1,4 @@
 // Matching a left against a configuration, in one walk over both.
-use crate::how_far::HowFar;
 use term::Places;
 use term::VARIABLES;
 ghost use mathlib.Core.Path.{_≡_};
@@ -7,6 +6,14 @@ ghost use Prim.Native.Nat.{_^_, _<_};
 ghost use lib.ListN.{length};
 ghost use Rattle.minuska.specs.Bridge.Place.{Accepted};
 ghost use Rattle.step.specs.Matching.{LeftIn, MatchContract, TurnFrom, LeftTurned, Put};
+
+// How many of a left's nodes in preorder a walk compared.
+pub enum Compared {
+    // all, and they agree
+    All(usize),
+    // those up to and including the first that disagrees
+    Until(usize),
+}
 
 // What a node of a left finds at the configuration's term that the walk has come to.
 pub enum LeftTurn {
@@ -75,7 +82,7 @@ fn put(s: &mut [u32], v: usize, x: usize)
     s[v] = x as u32;
 }
 
-// Matches the left that stands in table[at..end] against the whole configuration: how many of its nodes agree. The parts of its variables go to starts and ends.
+// Matches the left that stands in table[at..end] against the whole configuration, up to the first node that disagrees: how many nodes were compared. The parts of its variables go to starts and ends.
 pub fn match_left(
     table: &[i64],
     at: usize,
@@ -83,7 +90,7 @@ pub fn match_left(
     configuration: &[i64],
     starts: &mut Places,
     ends: &mut Places,
-) -> HowFar
+) -> Compared
     requires { ⌜ LeftIn (now table) at end ⌝ }
     requires { ⌜ Accepted (now configuration) ⌝ }
     ensures { λ r. ⌜ MatchContract (now (table .entry)) at end (now (configuration .entry)) (now (starts .entry)) (now (starts .exit)) (now (ends .exit)) r ⌝ }
@@ -107,9 +114,9 @@ pub fn match_left(
                 j = e;
             }
             LeftTurn::Misfit => {
-                return HowFar::Until((i - at) / 2 - 1);
+                return Compared::Until((i - at) / 2);
             }
         }
     }
-    HowFar::All
+    Compared::All((end - at) / 2)
 }

@@ -1,16 +1,17 @@
 // One rule at a configuration, over checked words and the table's index: its left, its conditions, the words of its right.
-use crate::how_far::HowFar;
+use crate::conditions::HowFar;
+use crate::matching::Compared;
 use minuska::Index;
 use term::Places;
 ghost use mathlib.Core.Path.{_≡_};
 ghost use Prim.Native.Nat.{max};
 ghost use lib.ListN.{length};
 ghost use Rattle.minuska.specs.Bridge.Place.{Indexed, Names, Accepted, Decides};
-ghost use Rattle.step.specs.Apply.{SomeMatched, MatchIs, HoldIs, JudgeIs, FitsIs, WordsFit, WriteIs};
+ghost use Rattle.step.specs.Apply.{SomeMatched, MatchIs, HoldIs, missed, JudgeIs, FitsIs, WordsFit, WriteIs};
 
 // Whether a rule applies to a configuration, or why not.
 pub enum Verdict {
-    // its left does not match: the place, from 0, of the first of the left's nodes in preorder that disagrees
+    // its left does not match: how many of the left's nodes in preorder were compared, the last of which disagrees
     Misfit(usize),
     // its left matches: the number, from 0, of its first condition that fails
     Fails(usize),
@@ -29,9 +30,9 @@ pub fn judge<'a>(
     requires { ⌜ Indexed (now table) (now index) × Accepted (now configuration) × Names (now table) rule ⌝ }
     ensures { λ r. ⌜ JudgeIs (now (table .entry)) (now (configuration .entry)) rule (now (starts .exit)) (now (ends .exit)) r ⌝ }
 {
-    match match_rule(table, index, rule, configuration, starts, ends) {
-        HowFar::Until(place) => Verdict::Misfit(place),
-        HowFar::All => match hold_conditions(table, index, rule, configuration, starts, ends) {
+    match compare_left(table, index, rule, configuration, starts, ends) {
+        Compared::Until(count) => Verdict::Misfit(count),
+        Compared::All(_) => match hold_conditions(table, index, rule, configuration, starts, ends) {
             HowFar::Until(number) => Verdict::Fails(number),
             HowFar::All => Verdict::Applies,
         },
@@ -49,15 +50,26 @@ pub fn applies(verdict: Verdict) -> bool
     }
 }
 
-// How far the rule's left matches the configuration; the places of its variables' terms go to starts and ends.
-pub fn match_rule(
+// How many nodes of a left were compared where they disagree; 0 where they agree.
+pub fn misfit(verdict: Verdict) -> usize
+    ensures { λ r. ⌜ r ≡ missed verdict ⌝ }
+{
+    match verdict {
+        Verdict::Misfit(count) => count,
+        Verdict::Fails(_) => 0,
+        Verdict::Applies => 0,
+    }
+}
+
+// How many nodes of the rule's left were compared with the configuration; the places of its variables' terms go to starts and ends.
+pub fn compare_left(
     table: &[i64],
     index: &Index,
     rule: usize,
     configuration: &[i64],
     starts: &mut Places,
     ends: &mut Places,
-) -> HowFar
+) -> Compared
     requires { ⌜ Indexed (now table) (now index) × Accepted (now configuration) × Names (now table) rule ⌝ }
     ensures { λ r. ⌜ MatchIs (now (table .entry)) (now (configuration .entry)) rule (now (starts .exit)) (now (ends .exit)) r ⌝ }
 {

@@ -11,9 +11,9 @@ use lib.ListN.{length, getD, getElem?}
 use borrow.Author.Tests.{ne-eqb}
 use Rattle.minuska.specs.Term.{Term}
 use Rattle.minuska.specs.Word.{datumWord}
-use Rattle.minuska.specs.Rule.{Rule, Table, IsTable, IsConfiguration}
+use Rattle.minuska.specs.Rule.{Rule, Table, IsTable}
 use Rattle.minuska.specs.Computed.Step.{order}
-use Rattle.minuska.specs.Bridge.Place.{keyOf, rootKey, RootMeets, perRule, Indexed, OrderedIs, Positions, KeysDiffer, RootsPassed, Accepted}
+use Rattle.minuska.specs.Bridge.Place.{keyOf, rootKey, RootMeets, perRule, Indexed, OrderedIs, Positions, KeysDiffer, RootKeyIs, RootsPassed, Accepted}
 use Rattle.minuska.proofs.Bridge.IndexLaw.{rule-placed}
 use Rattle.minuska.proofs.Bridge.PositionLaw.{element-at, few-rules, order-names}
 use Rattle.table.specs.Number.{naturalOf}
@@ -47,7 +47,10 @@ root-keys l g f h (inr e) = h (ap₂ keyOf (e .0) (e .1))
 pub root-there : {cs : List ℤ} → Accepted cs → 2 ≤ length cs
 root-there a = omega (arith, ap length (a .is .words))
 
-module _ (ws cs : List ℤ) (index : List ℕ) (x : Indexed ws index) where
+pub root-key : {cs : List ℤ} {root : ℕ} → root ≡ keyOf (getD cs 0 (pos 0)) (getD cs 1 (pos 0)) → RootKeyIs cs root
+root-key e = record { is = λ g q. e ∙ ap (λ (c : List ℤ). keyOf (getD c 0 (pos 0)) (getD c 1 (pos 0))) (sym (q .words)) }
+
+module _ (ws : List ℤ) (index : List ℕ) (x : Indexed ws index) where
   -- a position names a rule
   pub position-small : (to i n : ℕ) → Positions ws to → i < to → OrderedIs ws i n → n < 256
   position-small to i n p h o =
@@ -59,33 +62,30 @@ module _ (ws cs : List ℤ) (index : List ℕ) (x : Indexed ws index) where
       let f = few-rules t (x .is .accepted) in
       omega arith
 
-  module _ (from : ℕ) where
-    pub none-passed : RootsPassed ws cs from from
+  module _ (root from : ℕ) where
+    pub none-passed : RootsPassed ws root from from
     none-passed = record { keys = λ t r g i n p q h k e f. absurd (let z : ⊥ = omega arith in z); differ = λ t r g i n p q h k e f m. let z : ⊥ = omega arith in z }
 
-    -- the rule at a position, of which the index has the key k; the configuration's root has the key `root`
-    module _ (i n k root : ℕ) (o : OrderedIs ws i n) (ek : k ≡ getD index (perRule * n + 4) 0) (er : root ≡ keyOf (getD cs 0 (pos 0)) (getD cs 1 (pos 0))) where
+    -- the rule at a position, of which the index has the key k
+    module _ (i n k : ℕ) (o : OrderedIs ws i n) (ek : k ≡ getD index (perRule * n + 4) 0) where
       left-key : (t : Table) (r : Rule) (m : ℕ) → IsTable ws t → getElem? (order t) i ≡ some m → getElem? t m ≡ some r → k ≡ rootKey (r .left)
       left-key t r m p e u =
           let w : n ≡ m = o .is t p m e in
           ek ∙ rule-placed ws index t n r x p (ap (λ (y : ℕ). getElem? t y) w ∙ u) .numbers 4 (omega arith)
 
-      own-key : (g : Term) → IsConfiguration cs g → root ≡ rootKey g
-      own-key g q = er ∙ ap (λ (c : List ℤ). keyOf (getD c 0 (pos 0)) (getD c 1 (pos 0))) (sym (q .words))
-
-      pub stops-here : (k ≡ root) ⊎ (k ≡ 0) → (t : Table) (r : Rule) (g : Term) (m : ℕ) → IsTable ws t → IsConfiguration cs g → getElem? (order t) i ≡ some m → getElem? t m ≡ some r → KeysDiffer (r .left) g → ⊥
-      stops-here (inl h) t r g m p q e u d = d .1 (sym (left-key t r m p e u) ∙ (h ∙ own-key g q))
+      pub stops-here : (k ≡ root) ⊎ (k ≡ 0) → (t : Table) (r : Rule) (g : Term) (m : ℕ) → IsTable ws t → root ≡ rootKey g → getElem? (order t) i ≡ some m → getElem? t m ≡ some r → KeysDiffer (r .left) g → ⊥
+      stops-here (inl h) t r g m p q e u d = d .1 (sym (left-key t r m p e u) ∙ (h ∙ q))
       stops-here (inr h) t r g m p q e u d = d .0 (sym (left-key t r m p e u) ∙ h)
 
-      pub passes : (k ≡ root → ⊥) → (k ≡ 0 → ⊥) → RootsPassed ws cs from i → RootsPassed ws cs from (i + 1)
+      pub passes : (k ≡ root → ⊥) → (k ≡ 0 → ⊥) → RootsPassed ws root from i → RootsPassed ws root from (i + 1)
       passes f z past =
           record {
             keys = λ t r g j m p q lo hi e u. pick t r g j m p q lo hi e u (ℕ-discrete j i);
             differ = λ t r g j m p q lo hi e u. let d = pick t r g j m p q lo hi e u (ℕ-discrete j i) in root-keys (r .left) g (d .0) (d .1);
           }
         where
-          pick : (t : Table) (r : Rule) (g : Term) (j m : ℕ) → IsTable ws t → IsConfiguration cs g → from ≤ j → j < i + 1 → getElem? (order t) j ≡ some m → getElem? t m ≡ some r → Dec (j ≡ i) → KeysDiffer (r .left) g
+          pick : (t : Table) (r : Rule) (g : Term) (j m : ℕ) → IsTable ws t → root ≡ rootKey g → from ≤ j → j < i + 1 → getElem? (order t) j ≡ some m → getElem? t m ≡ some r → Dec (j ≡ i) → KeysDiffer (r .left) g
           pick t r g j m p q lo hi e u (yes d) =
               let a : k ≡ rootKey (r .left) = left-key t r m p (ap (λ (y : ℕ). getElem? (order t) y) (sym d) ∙ e) u in
-              ((λ y. z (a ∙ y)), (λ y. f (a ∙ (y ∙ sym (own-key g q)))))
+              ((λ y. z (a ∙ y)), (λ y. f (a ∙ (y ∙ sym q))))
           pick t r g j m p q lo hi e u (no d) = past .keys t r g j m p q lo (omega arith) e u

@@ -5,17 +5,18 @@
 //! calls nothing. The expression is the deepest that a table can hold: 512 calls nested.
 
 use agree::words::{RuleWords, Words, symbol, table, truth, variable};
-use hethalip::{Replay, Run, Step};
+use hethalip::{Match, Replay, Run, Step};
 use std::env;
 use std::process::{Command, Stdio};
 use std::thread;
 
-const ROUTINES: [&str; 7] = [
+const ROUTINES: [&str; 8] = [
     "nothing",
     "check_table",
     "check_configuration",
     "step",
     "step_by_rule",
+    "match_rule",
     "run",
     "replay",
 ];
@@ -50,6 +51,10 @@ fn perform(routine: &str) {
         "step_by_rule" => {
             let step = hethalip::step_by_rule(&rules, &configuration, 0, &mut out);
             assert!(matches!(step, Step::Stepped { .. }));
+        }
+        "match_rule" => {
+            let answer = hethalip::match_rule(&rules, &configuration, 0);
+            assert_eq!(answer, Match::Matches { compared: 2 });
         }
         "run" => {
             let run = hethalip::run(&rules, &configuration, 3, 4, &mut out, &mut other);

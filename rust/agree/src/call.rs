@@ -61,6 +61,11 @@ pub enum Call {
         rule: usize,
         out: Buffer,
     },
+    MatchRule {
+        table: Words,
+        configuration: Words,
+        rule: usize,
+    },
     Run {
         table: Words,
         configuration: Words,
@@ -88,6 +93,7 @@ impl Call {
             Call::CheckConfiguration { .. } => "check_configuration",
             Call::Step { .. } => "step",
             Call::StepByRule { .. } => "step_by_rule",
+            Call::MatchRule { .. } => "match_rule",
             Call::Run { .. } => "run",
             Call::Replay { .. } => "replay",
         }
@@ -100,6 +106,7 @@ impl Call {
             Call::CheckTable { table }
             | Call::Step { table, .. }
             | Call::StepByRule { table, .. }
+            | Call::MatchRule { table, .. }
             | Call::Run { table, .. }
             | Call::Replay { table, .. } => table,
         }
@@ -112,6 +119,7 @@ impl Call {
             Call::CheckConfiguration { configuration }
             | Call::Step { configuration, .. }
             | Call::StepByRule { configuration, .. }
+            | Call::MatchRule { configuration, .. }
             | Call::Run { configuration, .. }
             | Call::Replay { configuration, .. } => configuration,
         }
@@ -138,6 +146,11 @@ impl Call {
                 configuration: fields.list("configuration")?,
                 rule: fields.number("rule")?,
                 out: fields.buffer("out")?,
+            }),
+            "match_rule" => Some(Call::MatchRule {
+                table: fields.list("table")?,
+                configuration: fields.list("configuration")?,
+                rule: fields.number("rule")?,
             }),
             "run" => Some(Call::Run {
                 table: fields.list("table")?,
@@ -189,6 +202,15 @@ impl Display for Call {
                 write_list(f, "configuration", configuration)?;
                 writeln!(f, "rule {rule}")?;
                 write_buffer(f, "out", *out)
+            }
+            Call::MatchRule {
+                table,
+                configuration,
+                rule,
+            } => {
+                write_list(f, "table", table)?;
+                write_list(f, "configuration", configuration)?;
+                writeln!(f, "rule {rule}")
             }
             Call::Run {
                 table,

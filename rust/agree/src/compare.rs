@@ -1,7 +1,7 @@
 //! Performs calls and compares what they leave.
 
 use crate::call::{Buffer, Call};
-use interpreter::{Check, Replay, Routines, Run, Step};
+use interpreter::{Check, Match, Replay, Routines, Run, Step};
 use std::fmt::Write;
 use std::panic::{AssertUnwindSafe, catch_unwind};
 
@@ -11,6 +11,7 @@ use std::panic::{AssertUnwindSafe, catch_unwind};
 pub enum Answer {
     Check(Check),
     Step(Step),
+    Match(Match),
     Run(Run),
     Replay(Replay),
 }
@@ -22,11 +23,15 @@ impl Answer {
             Answer::Check(Check::Good) => "good".to_string(),
             Answer::Step(Step::Stepped { .. }) => "stepped".to_string(),
             Answer::Step(Step::Stuck) | Answer::Run(Run::Stuck { .. }) => "stuck".to_string(),
+            Answer::Match(Match::Matches { .. }) => "matches".to_string(),
+            Answer::Match(Match::Differs { compared: 0 }) => "names no rule".to_string(),
+            Answer::Match(Match::Differs { .. }) => "differs".to_string(),
             Answer::Run(Run::Spent { .. }) => "spent".to_string(),
             Answer::Replay(Replay::Reproduced) => "reproduced".to_string(),
             Answer::Replay(Replay::NotReproduced) => "not reproduced".to_string(),
             Answer::Check(Check::Refused(refusal))
             | Answer::Step(Step::Refused(refusal))
+            | Answer::Match(Match::Refused(refusal))
             | Answer::Run(Run::Refused(refusal))
             | Answer::Replay(Replay::Refused(refusal)) => format!("refused {}", *refusal as u8),
             Answer::Step(Step::OverLimit)
@@ -93,7 +98,9 @@ impl<T: Copy + PartialEq + From<u8>> Lent<T> {
 fn buffers(call: &Call) -> [Buffer; 4] {
     let none = Buffer { len: 0, fill: 0 };
     match call {
-        Call::CheckTable { .. } | Call::CheckConfiguration { .. } => [none; 4],
+        Call::CheckTable { .. } | Call::CheckConfiguration { .. } | Call::MatchRule { .. } => {
+            [none; 4]
+        }
         Call::Step { out, .. } | Call::StepByRule { out, .. } => [*out, none, none, none],
         Call::Run { out, spare, .. } => [*out, *spare, none, none],
         Call::Replay {
@@ -130,6 +137,9 @@ pub fn perform(call: &Call, routines: &dyn Routines) -> Outcome {
             rule,
             out.inside_mut(),
         )),
+        Call::MatchRule { rule, .. } => {
+            Answer::Match(routines.match_rule(table.inside(), configuration.inside(), rule))
+        }
         Call::Run { budget, limit, .. } => Answer::Run(routines.run(
             table.inside(),
             configuration.inside(),

@@ -17,7 +17,7 @@ pub struct Proved;
 #[cfg(feature = "proved")]
 mod proved {
     use super::Proved;
-    use interpreter::{Check, Refusal, Replay, Routines, Run, Step};
+    use interpreter::{Check, Match, Refusal, Replay, Routines, Run, Step};
 
     fn refusal(refusal: hethalip::Refusal) -> Refusal {
         match refusal {
@@ -50,6 +50,14 @@ mod proved {
             hethalip::Step::Stuck => Step::Stuck,
             hethalip::Step::OverLimit => Step::OverLimit,
             hethalip::Step::Refused(why) => Step::Refused(refusal(why)),
+        }
+    }
+
+    fn match_rule(answer: hethalip::Match) -> Match {
+        match answer {
+            hethalip::Match::Matches { compared } => Match::Matches { compared },
+            hethalip::Match::Differs { compared } => Match::Differs { compared },
+            hethalip::Match::Refused(why) => Match::Refused(refusal(why)),
         }
     }
 
@@ -96,6 +104,10 @@ mod proved {
             out: &mut [i64],
         ) -> Step {
             step(hethalip::step_by_rule(table, configuration, rule, out))
+        }
+
+        fn match_rule(&self, table: &[i64], configuration: &[i64], rule: usize) -> Match {
+            match_rule(hethalip::match_rule(table, configuration, rule))
         }
 
         fn run(

@@ -50,6 +50,9 @@ pub fn calls() -> Vec<Call> {
     calls.extend(outs_of_steps());
     calls.extend(steps_with_meters());
     calls.extend(lookups_in_both());
+    calls.extend(matches_of_nodes());
+    calls.extend(matches_of_wide_lefts());
+    calls.extend(matches_by_number());
     calls.extend(runs());
     calls.extend(replays());
     calls.extend(refusals_together());
@@ -766,6 +769,115 @@ fn largest_successor() -> Call {
     }
 }
 
+/// Matches of each node with each, as a whole left and inside one.
+fn matches_of_nodes() -> Vec<Call> {
+    let one = || int(1);
+    let nodes = [
+        error(),
+        truth(false),
+        truth(true),
+        int(0),
+        one(),
+        int(5),
+        int(i64::MIN),
+        int(i64::MAX),
+        dictionary(&[]),
+        dictionary(&[(0, one())]),
+        dictionary(&[(1, one())]),
+        dictionary(&[(1, int(2))]),
+        dictionary(&[(1, one()), (2, one())]),
+        symbol(0, &[]),
+        symbol(1, &[]),
+        symbol(4_095, &[]),
+        symbol(1, &[one()]),
+        symbol(1, &[symbol(1, &[])]),
+        symbol(2, &[one()]),
+        symbol(1, &[one(), one()]),
+    ];
+    let inside = |node: &Words| symbol(3, &[int(7), node.clone(), int(8)]);
+    let mut calls = Vec::new();
+    for left in &nodes {
+        for other in &nodes {
+            calls.push(match_of(left.clone(), other.clone()));
+            calls.push(match_of(inside(left), inside(other)));
+            // A variable's later place.
+            let twice = symbol(3, &[variable(0), int(7), variable(0)]);
+            let both = symbol(3, &[left.clone(), int(7), other.clone()]);
+            calls.push(match_of(twice, both));
+        }
+    }
+    calls
+}
+
+/// A match of a rule with this left.
+fn match_of(left: Words, configuration: Words) -> Call {
+    Call::MatchRule {
+        table: table(&[RuleWords::new(0, left, int(1))]),
+        configuration,
+        rule: 0,
+    }
+}
+
+/// Matches of lefts with as many nodes as there may be, or nearly: with themselves, and with a
+/// configuration in which one node has another datum, from the first to the last.
+fn matches_of_wide_lefts() -> Vec<Call> {
+    let mut calls = Vec::new();
+    for nodes in [511, 512] {
+        for left in [chain(nodes, 3), bush(nodes), map_of_nodes(nodes)] {
+            calls.push(match_of(left.clone(), left.clone()));
+            for place in [0, 1, 2, nodes / 2, nodes - 3, nodes - 2, nodes - 1] {
+                let mut other = left.clone();
+                other[2 * place + 1] += 1;
+                calls.push(match_of(left.clone(), other));
+            }
+        }
+    }
+    // 72 symbols with seven children and 433 places: 505 nodes, and each variable many times.
+    let symbols = || [15, 0].repeat(72);
+    let places = |tag: i64| (0..433).flat_map(move |place| [tag, place % 16]);
+    let left = [symbols(), places(3).collect()].concat();
+    let same = [symbols(), places(2).collect()].concat();
+    calls.push(match_of(left.clone(), same.clone()));
+    for place in [72, 73, 87, 88, 300, 503, 504] {
+        let mut other = same.clone();
+        other[2 * place + 1] += 1;
+        calls.push(match_of(left.clone(), other));
+    }
+    calls
+}
+
+/// Matches of rules by their numbers, and by those that no rule has.
+fn matches_by_number() -> Vec<Call> {
+    let rule = |number| RuleWords::new(0, symbol(1, &[int(number)]), int(0));
+    let mut calls = Vec::new();
+    for count in [0, 1, 3, 255, 256] {
+        let rules: Vec<RuleWords> = (0..count).map(rule).collect();
+        for number in [
+            0,
+            1,
+            2,
+            3,
+            254,
+            255,
+            256,
+            257,
+            1 << 16,
+            1 << 32,
+            usize::MAX - 255,
+            usize::MAX,
+        ] {
+            for last in [0, count - 1] {
+                calls.push(Call::MatchRule {
+                    table: table(&rules),
+                    configuration: symbol(1, &[int(last)]),
+                    rule: number,
+                });
+            }
+        }
+    }
+    calls
+}
+
 /// Budgets, limits and buffers of a run.
 fn runs() -> Vec<Call> {
     let run = |budget, limit, out, spare| Call::Run {
@@ -902,6 +1014,11 @@ fn refusals_together() -> Vec<Call> {
             configuration: configuration.clone(),
             rule: if has(3) { 7 } else { 0 },
             out: buffer(words),
+        });
+        calls.push(Call::MatchRule {
+            table: table_words.clone(),
+            configuration: configuration.clone(),
+            rule: if has(3) { usize::MAX } else { 0 },
         });
         calls.push(Call::Run {
             table: table_words.clone(),

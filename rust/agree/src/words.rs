@@ -107,21 +107,38 @@ pub fn nest_of_symbols(count: usize) -> Words {
     words
 }
 
+/// How many children a node has.
+pub fn child_count(tag: i64, datum: i64) -> usize {
+    match tag {
+        4 => ARITIES[datum as usize],
+        5 => 2 * datum as usize,
+        8..=15 => (tag - 8) as usize,
+        _ => 0,
+    }
+}
+
 /// Where the term ends that starts here.
 pub fn term_end(words: &[i64], start: usize) -> usize {
     let mut pending = 1;
     let mut at = start;
     while pending > 0 {
-        pending += match words[at] {
-            4 => ARITIES[words[at + 1] as usize],
-            5 => 2 * words[at + 1] as usize,
-            tag @ 8..=15 => (tag - 8) as usize,
-            _ => 0,
-        };
+        pending += child_count(words[at], words[at + 1]);
         pending -= 1;
         at += 2;
     }
     at
+}
+
+/// The terms that follow each other in these words.
+pub fn terms(words: &[i64]) -> Vec<Words> {
+    let mut terms = Vec::new();
+    let mut at = 0;
+    while at < words.len() {
+        let end = term_end(words, at);
+        terms.push(words[at..end].to_vec());
+        at = end;
+    }
+    terms
 }
 
 /// A rule's parts.

@@ -22,7 +22,7 @@ fn every_kind_of_answer() {
         *counts.entry(kind).or_default() += 1;
     }
     println!("{counts:#?}");
-    let kinds: [(&str, &[&str]); 6] = [
+    let kinds: [(&str, &[&str]); 7] = [
         ("check_table", &["good", "refused 1"]),
         ("check_configuration", &["good", "refused 2"]),
         (
@@ -32,6 +32,16 @@ fn every_kind_of_answer() {
         (
             "step_by_rule",
             &["stepped", "stuck", "refused 1", "refused 2", "refused 6"],
+        ),
+        (
+            "match_rule",
+            &[
+                "matches",
+                "differs",
+                "names no rule",
+                "refused 1",
+                "refused 2",
+            ],
         ),
         (
             "run",

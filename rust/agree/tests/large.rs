@@ -8,7 +8,7 @@ use agree::words::{
     LOOKUP, RuleWords, UPDATE, Words, bush, call, chain, dictionary, int, nest, symbol, table,
     truth, variable,
 };
-use interpreter::{Check, Replay, Run, Step};
+use interpreter::{Check, Match, Replay, Run, Step};
 use std::thread;
 
 const STACK: usize = 1 << 20;
@@ -56,6 +56,23 @@ fn step(rules: &[RuleWords], configuration: Words) -> Call {
         configuration,
         out: buffer(2 * MOST),
     }
+}
+
+/// The match of rule 0 that all interpreters agree on.
+fn agreed_match(rules: &[RuleWords], configuration: Words) -> Answer {
+    agreed(&Call::MatchRule {
+        table: table(rules),
+        configuration,
+        rule: 0,
+    })
+}
+
+fn matches(compared: u32) -> Answer {
+    Answer::Match(Match::Matches { compared })
+}
+
+fn differs(compared: u32) -> Answer {
+    Answer::Match(Match::Differs { compared })
 }
 
 fn run(rules: &[RuleWords], configuration: Words, budget: u64, limit: usize) -> Call {
@@ -256,16 +273,20 @@ fn equal_halves_of_the_largest_configuration() {
         let pair = |one, two| symbol(4, &[one, two]);
         let rules = [RuleWords::new(3, pair(x(), x()), x())];
         for half in [chain(16_383, 9), bush(16_383)] {
-            let call = step(&rules, pair(half.clone(), half.clone()));
+            let same = pair(half.clone(), half.clone());
+            let call = step(&rules, same.clone());
             assert!(matches!(
                 agreed(&call),
                 Answer::Step(Step::Stepped { nodes: 16_383, .. })
             ));
+            assert_eq!(agreed_match(&rules, same), matches(3));
             let mut other = half.clone();
             let last = other.len() - 1;
             other[last] += 1;
-            let call = step(&rules, pair(half, other));
+            let different = pair(half, other);
+            let call = step(&rules, different.clone());
             assert_eq!(agreed(&call), Answer::Step(Step::Stuck));
+            assert_eq!(agreed_match(&rules, different), differs(3));
         }
     });
 }
@@ -346,6 +367,13 @@ fn lefts_and_rights_as_deep_as_they_may_be() {
             agreed(&call),
             Answer::Step(Step::Stepped { rule: 0, .. })
         ));
+        assert_eq!(agreed_match(&rules, deep(int(5))), matches(512));
+        assert_eq!(agreed_match(&rules, deep(int(6))), differs(512));
+        assert_eq!(
+            agreed_match(&rules[1..], deep(chain(1_000, 6))),
+            matches(512)
+        );
+        assert_eq!(agreed_match(&rules, chain(511, 6)), differs(511));
     });
 }
 

@@ -6,13 +6,14 @@ use agree::words::{
     RuleWords, Words, bush, chain, int, nest, nest_of_symbols, spin_rules, symbol, table,
 };
 use interpreter::tree::{Table, Term};
-use interpreter::{Check, Replay, Routines, Run, Step, Tuned};
+use interpreter::{Check, Match, Replay, Routines, Run, Step, Tuned};
 
 /// What a case calls.
 enum Routine {
     CheckTable,
     CheckConfiguration,
     Step,
+    Match { compared: u32 },
     Run { budget: u64 },
     Replay { log: Vec<u16>, answer: Replay },
 }
@@ -29,7 +30,7 @@ pub struct Case {
     spare: Words,
     choices: Vec<u16>,
     work: Words,
-    /// The steps of one call, once they are known.
+    /// The steps of one call, or what else is counted, once they are known.
     steps: u64,
     /// The successors that a replay forms which remembers nothing; `None` if they are too many.
     all: Option<u64>,
@@ -67,8 +68,15 @@ impl Case {
         case
     }
 
-    /// The steps of one call: those of a run, the successors formed by a replay that looks at each
-    /// configuration once, one of a step, the words of a table's check, the nodes of a configuration's.
+    /// The case with its steps counted as rules tried, so many for each.
+    fn in_rules_tried(mut self, rules: usize) -> Case {
+        self.steps *= rules as u64;
+        self
+    }
+
+    /// The steps of one call: those of a run, or the rules that it tries where the case counts them;
+    /// the successors formed by a replay that looks at each configuration once; one of a step and of
+    /// a match; the words of a table's check, the nodes of a configuration's.
     pub fn steps(&self) -> u64 {
         self.steps
     }
@@ -86,7 +94,7 @@ impl Case {
         self.steps = match &self.routine {
             Routine::CheckTable => self.table.len() as u64,
             Routine::CheckConfiguration => self.configuration.len() as u64 / 2,
-            Routine::Step => 1,
+            Routine::Step | Routine::Match { .. } => 1,
             Routine::Run { .. } => 0,
             Routine::Replay { log, .. } => {
                 let table = Table::read(&self.table).expect("a good table");
@@ -115,6 +123,11 @@ impl Case {
             Routine::Step => {
                 let answer = engine.step(&self.table, &self.configuration, &mut self.out);
                 assert!(matches!(answer, Step::Stepped { .. }));
+            }
+            Routine::Match { compared } => {
+                let answer = engine.match_rule(&self.table, &self.configuration, 0);
+                let compared = *compared;
+                assert_eq!(answer, Match::Matches { compared });
             }
             Routine::Run { budget } => {
                 let answer = engine.run(
@@ -159,6 +172,7 @@ fn steps_of(answer: Run) -> u64 {
 /// All cases.
 pub fn all() -> Vec<Case> {
     let mut cases = runs();
+    cases.extend(reels());
     cases.extend(carried());
     cases.extend(meters());
     cases.extend(replays());
@@ -220,6 +234,24 @@ fn runs() -> Vec<Case> {
             8,
         ),
     ]
+}
+
+/// Runs over a wide sheet: 200 rules that disagree at one node, then one that applies.
+fn reels() -> Vec<Case> {
+    let case = |(name, place)| {
+        let rules = rules::reels(place);
+        Case::new(
+            &format!("200 reel rules that disagree at the {name} node, a rule tried"),
+            &rules,
+            rules::window(),
+            57,
+            Routine::Run { budget: 1_000 },
+        )
+        .in_rules_tried(rules.len())
+    };
+    [("first", 0), ("middle", 28), ("last", 56)]
+        .map(case)
+        .into()
 }
 
 /// Large configurations of which little changes.
@@ -397,6 +429,13 @@ fn single() -> Vec<Case> {
             &rules::carry(false),
             symbol(0, &[int(5), bush(30_000)]),
             30_010,
+        ),
+        Case::new(
+            "match of a left of 57 nodes, checks included",
+            &[RuleWords::new(1, rules::window(), int(0))],
+            rules::window(),
+            57,
+            Routine::Match { compared: 57 },
         ),
         Case::new(
             "check of a table of 200 rules, a word",

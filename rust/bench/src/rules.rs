@@ -241,6 +241,34 @@ pub fn two_hundred_guarded() -> Vec<RuleWords> {
         .collect()
 }
 
+const WINDOW: i64 = 30;
+const REEL: i64 = 31;
+
+/// A window of seven reels with seven symbols each: 57 nodes.
+pub fn window() -> Words {
+    let reel = |reel: i64| {
+        let symbols: Vec<Words> = (0..7)
+            .map(|row| symbol((3 * reel + row) % 9, &[]))
+            .collect();
+        symbol(REEL, &symbols)
+    };
+    let reels: Vec<Words> = (0..7).map(reel).collect();
+    symbol(WINDOW, &reels)
+}
+
+/// 200 rules whose lefts are the window with another symbol at the node of this number, counted
+/// from 0, and behind them one that goes from any term to itself.
+pub fn reels(place: usize) -> Vec<RuleWords> {
+    let differing = |number: i64| {
+        let mut left = window();
+        left[2 * place + 1] = 100 + number;
+        RuleWords::new(1, left, int(0))
+    };
+    let mut rules: Vec<RuleWords> = (0..200).map(differing).collect();
+    rules.push(RuleWords::new(1, x(), x()));
+    rules
+}
+
 /// Counts down beside a load that is carried along, in front of it or behind it.
 pub fn carry(load_first: bool) -> Vec<RuleWords> {
     let next = call(9, &[x(), int(1)]);

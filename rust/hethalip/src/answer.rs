@@ -52,6 +52,25 @@ pub enum Step {
     Refused(Refusal),
 }
 
+/// The answer of a match: how far a rule's left and the configuration agree. Conditions play no
+/// part.
+#[derive(Clone, Copy, Debug, PartialEq, Eq, Hash)]
+pub enum Match {
+    /// The left matches.
+    Matches {
+        /// The left's nodes that were compared: all of them.
+        compared: u32,
+    },
+    /// The left does not match, or the number names no rule.
+    Differs {
+        /// The left's nodes that were compared: in preorder up to and including the first that
+        /// disagrees, so 1 at least; 0 if the number names no rule.
+        compared: u32,
+    },
+    /// 1 or 2.
+    Refused(Refusal),
+}
+
 /// The answer of a run.
 ///
 /// After the first three cases the configuration after `steps` steps stands at the start of `out`.
@@ -134,6 +153,16 @@ impl Step {
     }
 }
 
+impl Match {
+    /// The refusal's number, if this is one.
+    pub fn refusal_number(self) -> Option<u8> {
+        match self {
+            Match::Refused(refusal) => Some(refusal.number()),
+            _ => None,
+        }
+    }
+}
+
 impl Run {
     /// The refusal's number, 6 included, if this is one.
     pub fn refusal_number(self) -> Option<u8> {
@@ -160,7 +189,7 @@ impl Replay {
 /// Each function gives `None` for a number that the interface does not define.
 #[cfg(feature = "proved")]
 pub(crate) mod unpack {
-    use super::{Check, OVER_LIMIT, Refusal, Replay, Run, Step};
+    use super::{Check, Match, OVER_LIMIT, Refusal, Replay, Run, Step};
 
     fn kind_and_values(packed: u64) -> (u8, u64) {
         ((packed & 0xff) as u8, packed >> 8)
@@ -184,6 +213,19 @@ pub(crate) mod unpack {
             }),
             (OVER_LIMIT, 0) => Some(Step::OverLimit),
             (number @ 1..=2, 0) => Refusal::from_number(number).map(Step::Refused),
+            _ => None,
+        }
+    }
+
+    pub(crate) fn match_rule(packed: u64) -> Option<Match> {
+        match kind_and_values(packed) {
+            (22, count) => Some(Match::Matches {
+                compared: u32::try_from(count).ok()?,
+            }),
+            (23, count) => Some(Match::Differs {
+                compared: u32::try_from(count).ok()?,
+            }),
+            (number @ 1..=2, 0) => Refusal::from_number(number).map(Match::Refused),
             _ => None,
         }
     }
@@ -226,6 +268,20 @@ pub(crate) mod unpack {
                 })
             );
             assert_eq!(step(6), Some(Step::OverLimit));
+            assert_eq!(
+                match_rule(22 | 512 << 8),
+                Some(Match::Matches { compared: 512 })
+            );
+            assert_eq!(
+                match_rule(23 | 1 << 8),
+                Some(Match::Differs { compared: 1 })
+            );
+            assert_eq!(match_rule(23), Some(Match::Differs { compared: 0 }));
+            assert_eq!(match_rule(1), Some(Match::Refused(Refusal::BadTable)));
+            assert_eq!(
+                match_rule(2),
+                Some(Match::Refused(Refusal::BadConfiguration))
+            );
             assert_eq!(run(6 | 9 << 8), Some(Run::OverLimit { steps: 9 }));
             assert_eq!(run(18 | 7 << 8), Some(Run::Stuck { steps: 7 }));
             assert_eq!(
@@ -245,6 +301,11 @@ pub(crate) mod unpack {
             assert_eq!(check(256), None);
             assert_eq!(step(3), None);
             assert_eq!(step(16 | 1 << 8), None);
+            for number in [0, 3, 5, 6, 16, 21, 24, 1 | 1 << 8, 2 | 1 << 8] {
+                assert_eq!(match_rule(number), None);
+            }
+            assert_eq!(match_rule(22 | 1 << 40), None);
+            assert_eq!(match_rule(23 | 1 << 40), None);
             assert_eq!(run(7), None);
             assert_eq!(run(20), None);
             assert_eq!(replay(20 | 1 << 8), None);

@@ -1,6 +1,6 @@
 //! The answers in plain English. A refusal's text also says what to do about it.
 
-use crate::answer::{Check, Refusal, Replay, Run, Step};
+use crate::answer::{Check, Match, Refusal, Replay, Run, Step};
 use std::error::Error;
 use std::fmt::{self, Display, Formatter};
 
@@ -55,6 +55,25 @@ impl Display for Step {
                 "refused 6: the successor does not fit; lend an out of more words (65,536 at most are used)",
             ),
             Step::Refused(refusal) => refusal.fmt(f),
+        }
+    }
+}
+
+impl Display for Match {
+    fn fmt(&self, f: &mut Formatter) -> fmt::Result {
+        match self {
+            Match::Matches { compared } => {
+                write!(f, "matches, {} compared", counted(*compared, "node"))
+            }
+            Match::Differs { compared: 0 } => {
+                f.write_str("differs, 0 nodes compared: the number names no rule")
+            }
+            Match::Differs { compared } => write!(
+                f,
+                "differs, {} compared: the last one disagrees",
+                counted(*compared, "node")
+            ),
+            Match::Refused(refusal) => refusal.fmt(f),
         }
     }
 }
@@ -120,6 +139,7 @@ mod tests {
             assert!(text.contains("; "));
             assert_eq!(Check::Refused(refusal).to_string(), text);
             assert_eq!(Step::Refused(refusal).to_string(), text);
+            assert_eq!(Match::Refused(refusal).to_string(), text);
             assert_eq!(Run::Refused(refusal).to_string(), text);
             assert_eq!(Replay::Refused(refusal).to_string(), text);
         }
@@ -159,6 +179,27 @@ mod tests {
         );
         assert_eq!(Replay::Reproduced.to_string(), "reproduced");
         assert_eq!(Replay::NotReproduced.to_string(), "not reproduced");
+    }
+
+    #[test]
+    fn how_far_a_left_agrees() {
+        let text = |answer: Match| answer.to_string();
+        assert_eq!(
+            text(Match::Matches { compared: 1 }),
+            "matches, 1 node compared"
+        );
+        assert_eq!(
+            text(Match::Matches { compared: 57 }),
+            "matches, 57 nodes compared"
+        );
+        assert_eq!(
+            text(Match::Differs { compared: 3 }),
+            "differs, 3 nodes compared: the last one disagrees"
+        );
+        assert_eq!(
+            text(Match::Differs { compared: 0 }),
+            "differs, 0 nodes compared: the number names no rule"
+        );
     }
 
     #[test]

@@ -11,6 +11,7 @@
 //! | `check_table`, `check_configuration` | whether the words are well formed |
 //! | `step` | the successor by the lowest rule that applies |
 //! | `step_by_rule` | the successor by one given rule |
+//! | `match_rule` | whether one given rule's left matches, and how many of its nodes were compared |
 //! | `run` | that step repeated, up to a budget |
 //! | `replay` | whether some choice of rules yields a log of actions, and the first such choice |
 //!
@@ -18,7 +19,7 @@
     feature = "proved",
     doc = r"
 ```
-use hethalip::{Step, step};
+use hethalip::{Match, Step, match_rule, step};
 
 // One rule, action 10: spin[X] becomes spin[X - 1] if 0 < X. Symbol 1 is spin.
 let table = [
@@ -28,6 +29,12 @@ let mut out = [0; 4];
 let answer = step(&table, &[9, 1, 2, 2], &mut out);
 assert_eq!(answer, Step::Stepped { rule: 0, action: 10, nodes: 2 });
 assert_eq!(out, [9, 1, 2, 1]);
+
+// The left is spin[X], two nodes. Another symbol disagrees at the first of them.
+let answer = match_rule(&table, &[9, 1, 2, 2], 0);
+assert_eq!(answer, Match::Matches { compared: 2 });
+let answer = match_rule(&table, &[9, 3, 2, 2], 0);
+assert_eq!(answer, Match::Differs { compared: 1 });
 ```
 "
 )]
@@ -38,9 +45,9 @@ mod display;
 #[cfg(feature = "proved")]
 mod routines;
 
-pub use answer::{Check, OVER_LIMIT, Refusal, Replay, Run, Step};
+pub use answer::{Check, Match, OVER_LIMIT, Refusal, Replay, Run, Step};
 #[cfg(feature = "proved")]
-pub use routines::{check_configuration, check_table, replay, run, step, step_by_rule};
+pub use routines::{check_configuration, check_table, match_rule, replay, run, step, step_by_rule};
 
 /// The most nodes that a configuration has, and the highest limit.
 pub const MAX_NODES: usize = 32_768;

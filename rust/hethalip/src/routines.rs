@@ -2,7 +2,7 @@
 
 #![allow(unsafe_code)]
 
-use crate::answer::{Check, Replay, Run, Step, unpack};
+use crate::answer::{Check, Match, Replay, Run, Step, unpack};
 
 /// The C interface. A slice passes as a pointer and then its length in elements.
 mod c {
@@ -28,6 +28,13 @@ mod c {
             rule: usize,
             out: *mut i64,
             out_len: usize,
+        ) -> u64;
+        pub fn hethalip_match(
+            table: *const i64,
+            table_len: usize,
+            configuration: *const i64,
+            configuration_len: usize,
+            rule: usize,
         ) -> u64;
         pub fn hethalip_run(
             table: *const i64,
@@ -117,6 +124,26 @@ pub fn step_by_rule(table: &[i64], configuration: &[i64], rule: usize, out: &mut
         )
     };
     unpack::step(packed).expect(UNDEFINED)
+}
+
+/// Compares the left of the rule of the given number with the configuration, up to the first node
+/// that disagrees, and counts the left's nodes that were compared. Conditions play no part.
+///
+/// A node disagrees by another tag, datum or child count; a variable that occurs again, at its
+/// later place, if the term there is not the one at its first place. A number that names no rule
+/// differs, with no node compared.
+pub fn match_rule(table: &[i64], configuration: &[i64], rule: usize) -> Match {
+    // SAFETY: as said above.
+    let packed = unsafe {
+        c::hethalip_match(
+            table.as_ptr(),
+            table.len(),
+            configuration.as_ptr(),
+            configuration.len(),
+            rule,
+        )
+    };
+    unpack::match_rule(packed).expect(UNDEFINED)
 }
 
 /// Repeats the step, at most `budget` times (0 to 1,000,000), within `limit` nodes.

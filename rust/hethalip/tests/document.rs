@@ -65,6 +65,30 @@ fn steps() {
 }
 
 #[test]
+fn matches() {
+    // Rule 0 is spin[X] if 0 < X, and rule 2 is bonus[X, Y].
+    let left = |configuration: &[i64], rule| match_rule(&TABLE, configuration, rule);
+    assert_eq!(left(&SPIN_2, 0), Match::Matches { compared: 2 });
+    assert_eq!(left(&[9, 1, 2, 0], 0), Match::Matches { compared: 2 });
+    assert_eq!(left(&SPIN_2, 2), Match::Differs { compared: 1 });
+    assert_eq!(
+        left(&[10, 2, 2, 2, 2, 2], 2),
+        Match::Matches { compared: 3 }
+    );
+    for rule in [3, 256, usize::MAX] {
+        assert_eq!(left(&SPIN_2, rule), Match::Differs { compared: 0 });
+        assert_eq!(left(&[9, 1], rule).refusal_number(), Some(2));
+    }
+    let answer = match_rule(&TABLE[..46], &[9, 1], 3);
+    assert_eq!(answer, Match::Refused(Refusal::BadTable));
+    // pair[X, X]
+    let twice = [1, 0, 0, 10, 4, 3, 0, 3, 0, 3, 0];
+    let pair = |one, two| match_rule(&twice, &[10, 4, 2, one, 2, two], 0);
+    assert_eq!(pair(3, 3), Match::Matches { compared: 3 });
+    assert_eq!(pair(3, 4), Match::Differs { compared: 3 });
+}
+
+#[test]
 fn runs() {
     let (mut out, mut spare) = ([7; 9], [7; 9]);
     let answer = run(&TABLE, &SPIN_2, 2, 4, &mut out, &mut spare);

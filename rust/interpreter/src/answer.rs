@@ -45,6 +45,24 @@ pub enum Step {
     Refused(Refusal),
 }
 
+/// The answer of a match: how far a rule's left and the configuration agree.
+#[derive(Clone, Copy, Debug, PartialEq, Eq, Hash)]
+pub enum Match {
+    /// The left matches.
+    Matches {
+        /// The left's nodes.
+        compared: u32,
+    },
+    /// It does not, or the number names no rule.
+    Differs {
+        /// The left's nodes in preorder up to and including the first that disagrees; 0 if there
+        /// is no such rule.
+        compared: u32,
+    },
+    /// 1 or 2.
+    Refused(Refusal),
+}
+
 /// The answer of a run.
 #[derive(Clone, Copy, Debug, PartialEq, Eq, Hash)]
 pub enum Run {

@@ -17,7 +17,7 @@ pub mod limits;
 pub mod tree;
 pub mod tuned;
 
-pub use answer::{Check, Refusal, Replay, Run, Step};
+pub use answer::{Check, Match, Refusal, Replay, Run, Step};
 pub use cli::cli_answer;
 
 /// The routines, for whoever compares several interpreters.
@@ -42,6 +42,9 @@ pub trait Routines {
         rule: usize,
         out: &mut [i64],
     ) -> Step;
+
+    /// How far the left of the rule of that number and the configuration agree.
+    fn match_rule(&self, table: &[i64], configuration: &[i64], rule: usize) -> Match;
 
     /// The step repeated, at most `budget` times, within `limit` nodes.
     fn run(
@@ -100,6 +103,10 @@ macro_rules! routines_of {
                 out: &mut [i64],
             ) -> Step {
                 $module::step_by_rule(table, configuration, rule, out)
+            }
+
+            fn match_rule(&self, table: &[i64], configuration: &[i64], rule: usize) -> Match {
+                $module::match_rule(table, configuration, rule)
             }
 
             fn run(

@@ -1,8 +1,8 @@
 //! The cases of the scope paper, P1 (as the second change request has it) to P7 and those without
 //! a mark, for both interpreters. (P8 to P12 are also in `command_line.rs`, as text.) Then those
-//! of the first change request, dictionaries.
+//! of the first change request, dictionaries, and of the third, how far a left agrees.
 
-use interpreter::{Check, Refusal, Replay, Routines, Run, Step, Tree, Tuned};
+use interpreter::{Check, Match, Refusal, Replay, Routines, Run, Step, Tree, Tuned};
 
 #[rustfmt::skip]
 const TABLE: [i64; 47] = [
@@ -828,5 +828,257 @@ fn a_replay_with_a_meter() {
         assert_eq!(out, dictionary(&[(1, &[2, 10]), (2, &[2, 0])]));
         assert_eq!(replay(&[1, 1, 2], 4).0, Replay::OverLimit);
         assert_eq!(replay(&[1, 2], 5).0, Replay::NotReproduced);
+    }
+}
+
+fn matches(compared: u32) -> Match {
+    Match::Matches { compared }
+}
+
+fn differs(compared: u32) -> Match {
+    Match::Differs { compared }
+}
+
+/// Asserts how far a left agrees with a configuration.
+fn assert_match(left: &[i64], configuration: &[i64], answer: Match) {
+    let table = [&[1, 7, 0], left, &[2, 1]].concat();
+    for routines in BOTH {
+        assert_eq!(
+            routines.match_rule(&table, configuration, 0),
+            answer,
+            "{} of {left:?} and {configuration:?}",
+            routines.name()
+        );
+    }
+}
+
+#[test]
+fn p3_how_far_a_pair_agrees() {
+    let twice = [10, 4, 3, 0, 3, 0];
+    assert_match(&twice, &[10, 4, 2, 3, 2, 3], matches(3));
+    assert_match(&twice, &[10, 4, 2, 3, 2, 4], differs(3));
+}
+
+#[test]
+fn a_left_differs_at_its_root() {
+    let spin = [9, 1, 3, 0];
+    assert_match(&spin, &SPIN_2, matches(2));
+    // Another symbol, another child count, and other kinds.
+    for configuration in [
+        &[9, 3, 2, 2][..],
+        &[8, 1],
+        &[10, 1, 2, 2, 2, 2],
+        &[2, 1],
+        &[1, 1],
+        &[0, 0],
+        &[5, 1, 2, 1, 2, 2],
+    ] {
+        assert_match(&spin, configuration, differs(1));
+    }
+    assert_match(&[2, 5], &[2, 5], matches(1));
+    assert_match(&[2, 5], &[2, 6], differs(1));
+    assert_match(&[0, 0], &[0, 0], matches(1));
+    assert_match(&[0, 0], &[1, 0], differs(1));
+}
+
+#[test]
+fn a_left_differs_further_in() {
+    // f[g[1, true], h[], error, X]
+    let left = [12, 1, 10, 2, 2, 1, 1, 1, 8, 3, 0, 0, 3, 0];
+    let whole = [12, 1, 10, 2, 2, 1, 1, 1, 8, 3, 0, 0, 2, 9];
+    assert_match(&left, &whole, matches(7));
+    // The node's number in preorder, and two other words for it.
+    for (place, tag, datum) in [
+        (0, 12, 2),
+        (1, 10, 1),
+        (2, 2, 2),
+        (2, 2, i64::MIN),
+        (2, 1, 1),
+        (3, 1, 0),
+        (3, 2, 1),
+        (4, 8, 4),
+        (5, 1, 0),
+    ] {
+        let mut other = whole;
+        other[2 * place..2 * place + 2].copy_from_slice(&[tag, datum]);
+        assert_match(&left, &other, differs(place as u32 + 1));
+        // What differs behind it plays no part.
+        other[10..12].copy_from_slice(&[2, 77]);
+        assert_match(&left, &other, differs(place as u32 + 1));
+    }
+    // g[1], g[1, true, 1] and h[1]: another child count.
+    let less = [12, 1, 9, 2, 2, 1, 8, 3, 0, 0, 2, 9];
+    let more = [12, 1, 11, 2, 2, 1, 1, 1, 2, 1, 8, 3, 0, 0, 2, 9];
+    let leaf = [12, 1, 10, 2, 2, 1, 1, 1, 9, 3, 2, 1, 0, 0, 2, 9];
+    assert_match(&left, &less, differs(2));
+    assert_match(&left, &more, differs(2));
+    assert_match(&left, &leaf, differs(5));
+}
+
+#[test]
+fn a_variable_is_one_node_whatever_it_takes() {
+    // f[X, 1], and chains of so many nodes in place of X.
+    for nodes in [1, 2, 300, 32_766] {
+        let large = [[9, 6].repeat(nodes - 1), vec![8, 6]].concat();
+        assert_match(&[3, 0], &large, matches(1));
+        let pair = |last| [&[10, 4], &large[..], &[2, last]].concat();
+        assert_match(&[10, 4, 3, 0, 2, 1], &pair(1), matches(3));
+        assert_match(&[10, 4, 3, 0, 2, 1], &pair(2), differs(3));
+    }
+}
+
+#[test]
+fn a_repeated_variable_deep_inside() {
+    // f[g[X, h[Y]], 1, g[g[h[X]], 2]]
+    let left = [
+        11, 1, 10, 2, 3, 0, 9, 3, 3, 1, 2, 1, 10, 2, 9, 2, 9, 3, 3, 0, 2, 2,
+    ];
+    let whole = |x: &[i64], one: i64, again: &[i64], two: i64| {
+        let first = [&[11, 1, 10, 2], x, &[9, 3, 0, 0]].concat();
+        let second = [&[2, one, 10, 2, 9, 2, 9, 3], again, &[2, two]].concat();
+        [first, second].concat()
+    };
+    let x = [10, 7, 2, 5, 9, 7, 2, 6];
+    let mut other = x;
+    other[7] = 8;
+    assert_match(&left, &whole(&x, 1, &x, 2), matches(11));
+    assert_match(&left, &whole(&x, 1, &other, 2), differs(10));
+    assert_match(&left, &whole(&other, 1, &x, 2), differs(10));
+    assert_match(&left, &whole(&x, 1, &[2, 5], 2), differs(10));
+    // Before it and behind it.
+    assert_match(&left, &whole(&x, 3, &other, 2), differs(6));
+    assert_match(&left, &whole(&x, 1, &x, 3), differs(11));
+    assert_match(&left, &whole(&x, 1, &other, 3), differs(10));
+}
+
+#[test]
+fn three_places_of_one_variable() {
+    // f[X, X, X], with three numbers.
+    let left = [11, 1, 3, 0, 3, 0, 3, 0];
+    let at = |numbers: [i64; 3]| {
+        let [one, two, three] = numbers;
+        [11, 1, 2, one, 2, two, 2, three]
+    };
+    assert_match(&left, &at([3, 3, 3]), matches(4));
+    assert_match(&left, &at([3, 3, 4]), differs(4));
+    assert_match(&left, &at([3, 4, 4]), differs(3));
+    assert_match(&left, &at([3, 4, 3]), differs(3));
+    // f[X, Y, X, Y, X]: each with its own first place.
+    let left = [13, 1, 3, 0, 3, 1, 3, 0, 3, 1, 3, 0];
+    let at = |numbers: [i64; 5]| {
+        let children = numbers.iter().flat_map(|number| [2, *number]);
+        [13, 1].into_iter().chain(children).collect::<Vec<i64>>()
+    };
+    assert_match(&left, &at([1, 2, 1, 2, 1]), matches(6));
+    assert_match(&left, &at([1, 1, 1, 1, 1]), matches(6));
+    assert_match(&left, &at([1, 2, 1, 2, 2]), differs(6));
+    assert_match(&left, &at([1, 2, 1, 1, 1]), differs(5));
+    assert_match(&left, &at([1, 2, 2, 2, 1]), differs(4));
+}
+
+#[test]
+fn how_far_dictionaries_agree() {
+    let pair: &[i64] = &[10, 4, 2, 8, 5, 0];
+    // f[X, dictionary, X]: the dictionary's node is the third, then key, value and so on.
+    let left = |map: &[i64]| [&[11, 6, 3, 0], map, &[3, 0]].concat();
+    let at = |map: &[i64]| [&[11, 6, 2, 3], map, &[2, 3]].concat();
+    let map = dictionary(&[(-1, &[2, 10]), (5, pair), (7, &TRUE)]);
+    assert_match(&left(&map), &at(&map), matches(12));
+    assert_match(&left(&[5, 0]), &at(&[5, 0]), matches(4));
+    /// Keys and values, and how far the left agrees with their dictionary.
+    type Case<'a> = (&'a [(i64, &'a [i64])], u32);
+    let cases: [Case; 12] = [
+        // Another entry count, at the dictionary's own node.
+        (&[(-1, &[2, 10]), (5, pair)], 3),
+        (&[], 3),
+        (&[(-1, &[2, 10]), (5, pair), (7, &TRUE), (8, &TRUE)], 3),
+        (&[(9, &[2, 10])], 3),
+        // Another key.
+        (&[(-2, &[2, 10]), (5, pair), (7, &TRUE)], 4),
+        (&[(-1, &[2, 10]), (6, pair), (7, &TRUE)], 6),
+        (&[(-1, &[2, 10]), (5, pair), (8, &TRUE)], 10),
+        // Another value.
+        (&[(-1, &[2, 11]), (5, pair), (7, &TRUE)], 5),
+        (&[(-1, &[2, 10]), (5, &[2, 8]), (7, &TRUE)], 7),
+        (&[(-1, &[2, 10]), (5, &[10, 4, 2, 9, 5, 0]), (7, &TRUE)], 8),
+        (
+            &[
+                (-1, &[2, 10]),
+                (5, &[10, 4, 2, 8, 5, 1, 2, 1, 2, 1]),
+                (7, &TRUE),
+            ],
+            9,
+        ),
+        (&[(-1, &[2, 10]), (5, pair), (7, &FALSE)], 11),
+    ];
+    for (entries, compared) in cases {
+        assert_match(&left(&map), &at(&dictionary(entries)), differs(compared));
+    }
+    // Another kind of node, and a symbol of as many children.
+    assert_match(&left(&map), &at(&[2, 3]), differs(3));
+    assert_match(
+        &left(&[5, 1, 2, 0, 2, 0]),
+        &at(&[10, 1, 2, 0, 2, 0]),
+        differs(3),
+    );
+    // Behind the dictionary, and one that a variable takes.
+    let behind = [&[11, 6, 2, 3], &map[..], &[2, 4]].concat();
+    assert_match(&left(&map), &behind, differs(12));
+    let twice = [10, 4, 3, 0, 3, 0];
+    let other = dictionary(&[(-1, &[2, 10]), (5, pair), (7, &FALSE)]);
+    assert_match(&twice, &[&[10, 4], &map[..], &map].concat(), matches(3));
+    assert_match(&twice, &[&[10, 4], &map[..], &other].concat(), differs(3));
+}
+
+#[test]
+fn conditions_play_no_part_in_a_match() {
+    // spin[X] to X if true is false; spin[X] to X if X is error, and eight times.
+    for conditions in [
+        [&TRUE[..], &FALSE].concat(),
+        [&[3, 0][..], &ERROR].concat(),
+        [&[3, 0][..], &ERROR].concat().repeat(8),
+    ] {
+        let count = conditions.len() as i64 / 4;
+        let table = [&[1, 0, count, 9, 1, 3, 0, 3, 0], &conditions[..]].concat();
+        for routines in BOTH {
+            let step = routines.step(&table, &SPIN_2, &mut [0; 4]);
+            assert_eq!(step, Step::Stuck);
+            let answer = |configuration: &[i64]| routines.match_rule(&table, configuration, 0);
+            assert_eq!(answer(&SPIN_2), matches(2));
+            assert_eq!(answer(&[9, 3, 2, 2]), differs(1));
+        }
+    }
+}
+
+#[test]
+fn a_match_of_a_number_that_names_no_rule() {
+    for routines in BOTH {
+        for rule in [3, 4, 255, 256, 1 << 32, usize::MAX] {
+            let answer = routines.match_rule(&TABLE, &SPIN_2, rule);
+            assert_eq!(answer, differs(0));
+        }
+        assert_eq!(routines.match_rule(&TABLE, &SPIN_2, 2), differs(1));
+        assert_eq!(routines.match_rule(&[0], &SPIN_2, 0), differs(0));
+        // 255 is the last number there may be.
+        let most = [vec![256], [0, 0, 9, 1, 3, 0, 3, 0].repeat(256)].concat();
+        assert_eq!(routines.match_rule(&most, &SPIN_2, 255), matches(2));
+        assert_eq!(routines.match_rule(&most, &SPIN_2, 256), differs(0));
+    }
+}
+
+#[test]
+fn refusals_of_a_match() {
+    let refused = Match::Refused;
+    for routines in BOTH {
+        for rule in [0, 3, usize::MAX] {
+            let answer = |table: &[i64], words: &[i64]| routines.match_rule(table, words, rule);
+            assert_eq!(answer(&TABLE[..46], &SPIN_2), refused(Refusal::BadTable));
+            assert_eq!(answer(&[], &[]), refused(Refusal::BadTable));
+            let bad = refused(Refusal::BadConfiguration);
+            for words in [&[][..], &[9, 1], &[9, 1, 3, 0], &[5, 1, 2, 0, 4, 15]] {
+                assert_eq!(answer(&TABLE, words), bad);
+                assert_eq!(answer(&TABLE[..46], words), refused(Refusal::BadTable));
+            }
+        }
     }
 }

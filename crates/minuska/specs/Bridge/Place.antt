@@ -156,16 +156,21 @@ pub record Positions (ws : List ℤ) (to : ℕ) : Type 0 where
 abbrev pub KeysDiffer : Term → Term → Type 0
 KeysDiffer l g = (rootKey l ≡ 0 → ⊥) × (rootKey l ≡ rootKey g → ⊥)
 
-pub record RootsPassed (ws cs : List ℤ) (from to : ℕ) : Type 0 where
-  pub keys : (table : Table) (rule : Rule) (g : Term) (i n : ℕ) → IsTable ws table → IsConfiguration cs g → from ≤ i → i < to → getElem? (order table) i ≡ some n → getElem? table n ≡ some rule → KeysDiffer (rule .left) g
-  pub differ : (table : Table) (rule : Rule) (g : Term) (i n : ℕ) → IsTable ws table → IsConfiguration cs g → from ≤ i → i < to → getElem? (order table) i ≡ some n → getElem? table n ≡ some rule → RootMeets (rule .left) g → ⊥
+-- the key of the root of the configuration that stands there
+pub record RootKeyIs (cs : List ℤ) (root : ℕ) : Type 0 where
+  pub is : (g : Term) → IsConfiguration cs g → root ≡ rootKey g
+
+-- At the positions from one up to another stand no rules whose left may match a term whose root has this key.
+pub record RootsPassed (ws : List ℤ) (root from to : ℕ) : Type 0 where
+  pub keys : (table : Table) (rule : Rule) (g : Term) (i n : ℕ) → IsTable ws table → root ≡ rootKey g → from ≤ i → i < to → getElem? (order table) i ≡ some n → getElem? table n ≡ some rule → KeysDiffer (rule .left) g
+  pub differ : (table : Table) (rule : Rule) (g : Term) (i n : ℕ) → IsTable ws table → root ≡ rootKey g → from ≤ i → i < to → getElem? (order table) i ≡ some n → getElem? table n ≡ some rule → RootMeets (rule .left) g → ⊥
 
 -- The first position from one on, up to another, whose rule is not passed over.
-pub record SeekIs (ws cs : List ℤ) (from to r : ℕ) : Type 0 where
+pub record SeekIs (ws : List ℤ) (root from to r : ℕ) : Type 0 where
   pub low : from ≤ r
   pub high : r ≤ to
-  pub passed : RootsPassed ws cs from r
-  pub stops : (table : Table) (rule : Rule) (g : Term) (n : ℕ) → r < to → IsTable ws table → IsConfiguration cs g → getElem? (order table) r ≡ some n → getElem? table n ≡ some rule → KeysDiffer (rule .left) g → ⊥
+  pub passed : RootsPassed ws root from r
+  pub stops : (table : Table) (rule : Rule) (g : Term) (n : ℕ) → r < to → IsTable ws table → root ≡ rootKey g → getElem? (order table) r ≡ some n → getElem? table n ≡ some rule → KeysDiffer (rule .left) g → ⊥
 
 -- What the configuration's check establishes.
 pub record Accepted (ws : List ℤ) : Type 0 where

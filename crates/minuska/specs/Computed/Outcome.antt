@@ -14,8 +14,9 @@ use Rattle.minuska.specs.Word.{encode}
 use Rattle.minuska.specs.Rule.{Table, maxNodes, maxSteps, maxActions}
 use Rattle.minuska.specs.Slice.{outLimit}
 use Rattle.minuska.specs.Claim.{workWords}
-use Rattle.minuska.specs.Answer.{Refusal, Check, Good, Refused, BadTable, BadConfiguration, TooLong, BadLimit, ShortBuffer, Outcome, refused, gives, StepResult, RunResult, ReplayResult}
+use Rattle.minuska.specs.Answer.{Refusal, Check, Good, Refused, BadTable, BadConfiguration, TooLong, BadLimit, ShortBuffer, Outcome, refused, gives, MatchResult, StepResult, RunResult, ReplayResult}
 use Rattle.minuska.specs.Computed.Read.{readTable, readConfiguration}
+use Rattle.minuska.specs.Computed.Compare.{matchRule}
 use Rattle.minuska.specs.Computed.Step.{stepByRule, step}
 use Rattle.minuska.specs.Computed.Run.{run}
 use Rattle.minuska.specs.Computed.Replay.{replay}
@@ -66,6 +67,10 @@ termWords (some t) = encode (single t)
 
 unfoldable pub subtermWords : List ℤ → ℕ → List ℤ
 subtermWords config place = termWords (readConfiguration config >>= λ g. subtermAt (single g) place)
+
+-- the left of one rule, by the words
+unfoldable pub matchOutcome : List ℤ → List ℤ → ℕ → Outcome MatchResult
+matchOutcome table config n = onWords table config λ t g. gives (matchRule t n g)
 
 -- the step by one given rule, and the step, by the words and the out slice's length
 unfoldable pub ruleOutcome : List ℤ → List ℤ → ℕ → ℕ → Outcome StepResult

@@ -3,12 +3,13 @@
 use super::damage::damage;
 use super::faults::{faulty_configuration, faulty_table};
 use super::games::{Game, game};
+use super::matching::{configuration_for, wide_rule};
 use super::terms::ground;
 use super::walk::{run_sizes, searchable, walk};
 use crate::call::{Buffer, Call};
 use crate::rng::Rng;
 use crate::search::{search, search_once};
-use crate::words::Words;
+use crate::words::{RuleWords, Words, table};
 use interpreter::tree::{Table, Term};
 
 /// The most nodes of a configuration.
@@ -54,18 +55,30 @@ impl Calls {
 
     /// The next call.
     pub fn next_call(&mut self) -> Call {
-        if self.left == 0 {
-            self.new_game();
-        }
-        self.left -= 1;
-        match self.rng.below(100) {
+        self.take_turn();
+        match self.rng.below(110) {
             0..6 => self.check_table(),
             6..11 => self.check_configuration(),
             11..30 => self.step(),
             30..46 => self.step_by_rule(),
             46..65 => self.run(),
-            _ => self.replay(),
+            65..100 => self.replay(),
+            _ => self.match_rule(),
         }
+    }
+
+    /// The next call of `match_rule`, for whoever wants no others.
+    pub fn next_match(&mut self) -> Call {
+        self.take_turn();
+        self.match_rule()
+    }
+
+    /// A game serves for one call less, or there is a new one.
+    fn take_turn(&mut self) {
+        if self.left == 0 {
+            self.new_game();
+        }
+        self.left -= 1;
     }
 
     /// The table and the configuration as trees, if both are well formed.
@@ -181,18 +194,68 @@ impl Calls {
         if self.rng.percent(50) {
             self.wander();
         }
-        let count = self.game.rules.len();
-        let rule = match self.rng.below(20) {
-            0 => count,
-            1 => self.rng.pick(&[255, 256, usize::MAX, 1 << 32, 1 << 8 | 1]),
-            _ if count == 0 => 0,
-            _ => self.rng.below(count),
-        };
+        let rule = self.rule_number();
         Call::StepByRule {
             out: self.step_buffer(Some(rule)),
             table: self.table_words(5),
             configuration: self.configuration_words(5),
             rule,
+        }
+    }
+
+    /// The number of a rule, now and then of none.
+    fn rule_number(&mut self) -> usize {
+        let count = self.game.rules.len();
+        match self.rng.below(20) {
+            0 => count,
+            1 => self.rng.pick(&[255, 256, usize::MAX, 1 << 32, 1 << 8 | 1]),
+            _ if count == 0 => 0,
+            _ => self.rng.below(count),
+        }
+    }
+
+    /// A match of a game's rule with the game's configuration; or with one made for the rule, which
+    /// matches or differs at some node; or the same with a wide left in the rule's place.
+    fn match_rule(&mut self) -> Call {
+        let rule = self.rule_number();
+        let made = match self.rng.below(10) {
+            0..3 => None,
+            3..6 => self.game.rules.get(rule).cloned(),
+            _ => Some(wide_rule(&mut self.rng)),
+        };
+        match made {
+            Some(made) => self.match_of(rule, made),
+            None => {
+                if self.rng.percent(50) {
+                    self.wander();
+                }
+                Call::MatchRule {
+                    table: self.table_words(5),
+                    configuration: self.configuration_words(5),
+                    rule,
+                }
+            }
+        }
+    }
+
+    /// A match of this rule, which takes the place of the game's.
+    fn match_of(&mut self, number: usize, rule: RuleWords) -> Call {
+        let mut configuration = configuration_for(&mut self.rng, &rule.left);
+        let mut rules = self.game.rules.clone();
+        if let Some(place) = rules.get_mut(number) {
+            *place = rule;
+        }
+        let mut table = table(&rules);
+        if self.rng.percent(4) {
+            damage(&mut self.rng, &mut table);
+        }
+        if self.rng.percent(4) {
+            damage(&mut self.rng, &mut configuration);
+        }
+        Call::MatchRule {
+            table,
+            configuration,
+            rule: number,
         }
     }
 

@@ -5,6 +5,7 @@ mod damage;
 mod expressions;
 mod faults;
 mod games;
+mod matching;
 mod meters;
 mod terms;
 mod walk;

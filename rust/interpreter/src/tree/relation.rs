@@ -31,11 +31,27 @@ impl Valuation {
 
 /// The valuation under which the term matches the left (document 01: the left fits), if any.
 pub fn matches(left: &Term, term: &Term) -> Option<Valuation> {
-    let mut valuation = Valuation::default();
-    matches_under(left, term, &mut valuation).then_some(valuation)
+    compare(left, term).0
 }
 
-fn matches_under(left: &Term, term: &Term, valuation: &mut Valuation) -> bool {
+/// The same, and how many nodes of the left were compared: all of them if the term matches, else
+/// those in preorder up to the first that disagrees. (A variable that occurs again disagrees at its
+/// later place.)
+pub fn compare(left: &Term, term: &Term) -> (Option<Valuation>, usize) {
+    let mut valuation = Valuation::default();
+    let mut compared = 0;
+    let matches = matches_under(left, term, &mut valuation, &mut compared);
+    (matches.then_some(valuation), compared)
+}
+
+/// Each call compares the left's first node, and those for its children come in preorder.
+fn matches_under(
+    left: &Term,
+    term: &Term,
+    valuation: &mut Valuation,
+    compared: &mut usize,
+) -> bool {
+    *compared += 1;
     if let Label::Variable(variable) = left.label() {
         return valuation.bind(variable, term);
     }
@@ -45,7 +61,7 @@ fn matches_under(left: &Term, term: &Term, valuation: &mut Valuation) -> bool {
             .children()
             .iter()
             .zip(term.children())
-            .all(|(left, term)| matches_under(left, term, valuation))
+            .all(|(left, term)| matches_under(left, term, valuation, compared))
 }
 
 /// The value of an expression.

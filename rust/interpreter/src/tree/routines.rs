@@ -1,9 +1,10 @@
 //! The routines over slices.
 
+use super::relation::compare;
 use super::rules::Table;
 use super::search::{Found, search};
 use super::term::Term;
-use crate::answer::{Check, Refusal, Replay, Run, Step};
+use crate::answer::{Check, Match, Refusal, Replay, Run, Step};
 use crate::limits;
 
 /// Whether the words are a well formed table.
@@ -40,6 +41,23 @@ pub fn step_by_rule(table: &[i64], configuration: &[i64], rule: usize, out: &mut
     let named = table.rules.get(rule);
     let successor = named.and_then(|rule| rule.successor(&configuration));
     write_step(successor.map(|term| (rule, term)), &table, out)
+}
+
+/// How far the left of the rule of that number and the configuration agree.
+pub fn match_rule(table: &[i64], configuration: &[i64], rule: usize) -> Match {
+    let (table, configuration) = match read_both(table, configuration) {
+        Ok(both) => both,
+        Err(refusal) => return Match::Refused(refusal),
+    };
+    let Some(rule) = table.rules.get(rule) else {
+        return Match::Differs { compared: 0 };
+    };
+    let (valuation, compared) = compare(&rule.left, &configuration);
+    let compared = compared as u32;
+    match valuation {
+        Some(_) => Match::Matches { compared },
+        None => Match::Differs { compared },
+    }
 }
 
 /// The step repeated, at most `budget` times, within `limit` nodes.

@@ -3,7 +3,7 @@
 use super::check::{self, Configuration, index};
 use super::rules::{Bindings, Rules};
 use super::{Node, nodes, nodes_mut};
-use crate::answer::{Check, Refusal, Replay, Run, Step};
+use crate::answer::{Check, Match, Refusal, Replay, Run, Step};
 use crate::limits;
 use std::collections::HashSet;
 
@@ -46,6 +46,19 @@ pub fn step_by_rule(table: &[i64], configuration: &[i64], rule: usize, out: &mut
         named_step::<true>(&rules, configuration, rule, out)
     } else {
         named_step::<false>(&rules, configuration, rule, out)
+    }
+}
+
+/// How far the left of the rule of that number and the configuration agree.
+pub fn match_rule(table: &[i64], configuration: &[i64], rule: usize) -> Match {
+    let (rules, configuration) = match check_both(table, configuration) {
+        Ok(both) => both,
+        Err(refusal) => return Match::Refused(refusal),
+    };
+    if rules.has_maps {
+        named_match::<true>(&rules, configuration, rule)
+    } else {
+        named_match::<false>(&rules, configuration, rule)
     }
 }
 
@@ -169,6 +182,22 @@ fn named_step<const MAPS: bool>(
             write_step::<MAPS>(rules, rule, configuration, &bindings, out)
         }
         _ => Step::Stuck,
+    }
+}
+
+/// The match of the rule of that number. An indexed left has its nodes in preorder, one for each.
+#[inline(never)]
+fn named_match<const MAPS: bool>(rules: &Rules, configuration: &[Node], rule: usize) -> Match {
+    let Some(named) = rules.rules.get(rule) else {
+        return Match::Differs { compared: 0 };
+    };
+    match rules.compare::<MAPS>(named, configuration) {
+        (_, Some(place)) => Match::Differs {
+            compared: place as u32 + 1,
+        },
+        (nodes, None) => Match::Matches {
+            compared: nodes as u32,
+        },
     }
 }
 

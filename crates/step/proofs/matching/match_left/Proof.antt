@@ -1,12 +1,12 @@
 -- `match_left` meets its contract. The invariant: of every left and configuration that stand there, the walk is where `Walking` says.
 use mathlib.Core.Path.{_≡_, refl}
-use Prim.Native.Nat.{ℕ, _+_, _-_, _*_, _/_, _^_, _<_}
+use Prim.Native.Nat.{ℕ, suc, _+_, _-_, _*_, _/_, _^_, _<_}
 use native.Mathlib.Omega.{arith}
 use borrow.Author.Needs.{needs}
 use lib.ListN.{getD}
 use Rattle.minuska.specs.Term.{Term}
 use Rattle.minuska.specs.Rule.{IsConfiguration}
-use Rattle.step.specs.Compare.{comparison}
+use Rattle.minuska.specs.Computed.Compare.{comparison}
 use Rattle.step.specs.Matching.{IsLeft, Walking, TurnFrom}
 use Rattle.step.proofs.MatchingLaw.{room}
 use Rattle.step.proofs.MatchingAnswer.{few-words, begins, turn, ends-matched, not-matched, held, kept}
@@ -103,24 +103,20 @@ loop-again-3 c =
 enum-told-2 : tie.Need-enum-told-2 Inv-loop μ-loop
 enum-told-2 c = search needs
 
--- how many nodes were passed, from the words
-place-is : (at i n : ℕ) → i ≡ at + 2 * n → (i + 2 - at) / 2 - 1 ≡ n
-place-is at i n e = omega arith
-
 sub-t21 : tie.Need-sub-t21 Inv-loop μ-loop
 sub-t21 c = let e = c .before .before .before .before .before .before .loop .inv .1 in omega arith
 
 sub-t23 : tie.Need-sub-t23 Inv-loop μ-loop
-sub-t23 c = let e = c .before .before .before .before .before .before .loop .inv .1 in omega arith
+sub-t23 c = let e = c .before .before .before .pre .0 .is .ends in omega arith
 
 returns : tie.Need-returns Inv-loop μ-loop
 returns c =
     let t = c .before .before in
     let n = t .before .before .before in
-    record { each = λ l g x y. rw (place-is (n .before .before .before .args .at) (n .before .loop .i) (n .before .loop .inv .0) (n .before .loop .inv .1)) (not-matched x y (turn (t .turn-at .ensures) (c .enum-told2 .given .1) (n .loop-test .taken) (n .before .loop .inv .2 l g x y))); parts = held (walking (n .before)); keeps = n .before .loop .inv .3 }
+    record { each = λ l g x y. not-matched x y (turn (t .turn-at .ensures) (c .enum-told2 .given .1) (n .loop-test .taken) (n .before .loop .inv .2 l g x y)) (let e = n .before .loop .inv .1 in omega arith); parts = held (walking (n .before)); keeps = n .before .loop .inv .3 }
 
 returns-2 : tie.Need-returns-2 Inv-loop μ-loop
-returns-2 c = record { each = λ l g x y. ends-matched x y (c .loop-test .left) (c .before .loop .inv .2 l g x y); parts = held (walking (c .before)); keeps = c .before .loop .inv .3 }
+returns-2 c = record { each = λ l g x y. ends-matched x y (c .loop-test .left) (c .before .loop .inv .2 l g x y) (λ e. omega arith); parts = held (walking (c .before)); keeps = c .before .loop .inv .3 }
 
 pub match-left-spec : {M : Type 1} → statement M
 match-left-spec =
@@ -145,6 +141,6 @@ match-left-spec =
     loop-again-3
     enum-told-2
     sub-t21
-    sub-t23
     returns
+    sub-t23
     returns-2)

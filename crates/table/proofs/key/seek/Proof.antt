@@ -1,69 +1,43 @@
 -- `seek` meets its contract. The invariant: every rule from the first position up to this one was passed over.
-use mathlib.Core.Path.{_≡_, _∙_, ap₂}
 use mathlib.Core.Logic.{inl, inr}
 use Prim.Native.Nat.{_-_, _≤_}
 use native.Mathlib.Omega.{arith}
-use lib.IntN.{pos}
-use lib.ListN.{getD}
-use mir.Val.{SFits}
-use mir.Syntax.{w64}
 use borrow.Author.Needs.{needs}
-use Rattle.minuska.specs.Bridge.Place.{keyOf, RootsPassed}
-use Rattle.table.proofs.NumberLaw.{via₂}
-use Rattle.table.proofs.KeyLaw.{root-there, position-small, none-passed, stops-here, passes}
+use Rattle.minuska.specs.Bridge.Place.{RootsPassed}
+use Rattle.table.proofs.KeyLaw.{position-small, none-passed, stops-here, passes}
 use Rattle.table.proofs.key.seek.Statement.{statement}
 use Rattle.table.proofs.key.seek.Tie as tie
 
 abbrev Inv-loop : tie.InvT-loop
-Inv-loop table index configuration from to root i₀ i = (from ≤ i) × (i ≤ to) × RootsPassed table configuration from i
+Inv-loop table index root from to i₀ i = (from ≤ i) × (i ≤ to) × RootsPassed table root from i
 
 abbrev μ-loop : tie.MeasureT-loop
-μ-loop table index configuration from to root i₀ i = to - i
-
-root-is : (c : tie.After-key Inv-loop μ-loop) → c .key .result ≡ keyOf (getD (c .before .before .before .args .configuration .now) 0 (pos 0)) (getD (c .before .before .before .args .configuration .now) 1 (pos 0))
-root-is c =
-    let f : SFits w64 (c .before .before .word .result) = search needs in
-    let g : SFits w64 (c .before .word2 .result) = search needs in
-    via₂ keyOf f g (c .key .ensures) ∙ ap₂ keyOf (c .before .before .word .ensures) (c .before .word2 .ensures)
-
-word-requires : tie.Need-word-requires Inv-loop μ-loop
-word-requires c κs = let h = root-there (c .pre .1) in omega arith
-
-word-requires-2 : tie.Need-word-requires-2 Inv-loop μ-loop
-word-requires-2 c κs = let h = root-there (c .before .pre .1) in omega arith
-
-key-requires : tie.Need-key-requires Inv-loop μ-loop
-key-requires c κs = tt
-
-cast-root : tie.Need-cast-root Inv-loop μ-loop
-cast-root c = search needs
+μ-loop table index root from to i₀ i = to - i
 
 loop-holds : tie.Need-loop-holds Inv-loop μ-loop
 loop-holds c =
-    let s = c .before .before .before in
-    (omega arith, s .pre .3, none-passed (s .args .table .now) (s .args .configuration .now) (s .args .index .now) (s .pre .0) (s .args .from))
+    (omega arith, c .pre .2, none-passed (c .args .table .now) (c .args .index .now) (c .pre .0) (c .args .root) (c .args .from))
 
 ordered-requires : tie.Need-ordered-requires Inv-loop μ-loop
-ordered-requires c κs = c .before .before .before .before .before .pre .0
+ordered-requires c κs = c .before .before .pre .0
 
 number-requires : tie.Need-number-requires Inv-loop μ-loop
 number-requires c κs =
     let l = c .before .before in
-    let s = l .before .before .before .before in
-    (position-small (s .args .table .now) (s .args .configuration .now) (s .args .index .now) (s .pre .0) (s .args .to) (l .loop .i) (c .ordered .result) (s .pre .2) (c .before .loop-test .taken) (c .ordered .ensures), omega arith)
+    let s = l .before in
+    (position-small (s .args .table .now) (s .args .index .now) (s .pre .0) (s .args .to) (l .loop .i) (c .ordered .result) (s .pre .1) (c .before .loop-test .taken) (c .ordered .ensures), omega arith)
 
 returns : tie.Need-returns Inv-loop μ-loop
 returns c =
     let n = c .before in
     let o = n .before in
     let l = o .before .before in
-    let s = l .before .before .before .before in
+    let s = l .before in
     record {
       low = l .loop .inv .0;
       high = l .loop .inv .1;
       passed = l .loop .inv .2;
-      stops = λ t r g m h. stops-here (s .args .table .now) (s .args .configuration .now) (s .args .index .now) (s .pre .0) (s .args .from) (l .loop .i) (o .ordered .result) (n .number .result) (l .before .key .result)
-          (o .ordered .ensures) (n .number .ensures .is) (root-is (l .before)) (inl (c .if1 .taken)) t r g m;
+      stops = λ t r g m h. stops-here (s .args .table .now) (s .args .index .now) (s .pre .0) (s .args .root) (s .args .from) (l .loop .i) (o .ordered .result) (n .number .result) (o .ordered .ensures) (n .number .ensures .is) (inl (c .if1 .taken)) t r g m;
     }
 
 returns-2 : tie.Need-returns-2 Inv-loop μ-loop
@@ -71,13 +45,12 @@ returns-2 c =
     let n = c .before .before in
     let o = n .before in
     let l = o .before .before in
-    let s = l .before .before .before .before in
+    let s = l .before in
     record {
       low = l .loop .inv .0;
       high = l .loop .inv .1;
       passed = l .loop .inv .2;
-      stops = λ t r g m h. stops-here (s .args .table .now) (s .args .configuration .now) (s .args .index .now) (s .pre .0) (s .args .from) (l .loop .i) (o .ordered .result) (n .number .result) (l .before .key .result)
-          (o .ordered .ensures) (n .number .ensures .is) (root-is (l .before)) (inr (c .if2 .taken)) t r g m;
+      stops = λ t r g m h. stops-here (s .args .table .now) (s .args .index .now) (s .pre .0) (s .args .root) (s .args .from) (l .loop .i) (o .ordered .result) (n .number .result) (o .ordered .ensures) (n .number .ensures .is) (inr (c .if2 .taken)) t r g m;
     }
 
 add-i : tie.Need-add-i Inv-loop μ-loop
@@ -92,11 +65,10 @@ loop-again c =
     let n = e .before in
     let o = n .before in
     let l = o .before .before in
-    let s = l .before .before .before .before in (
+    let s = l .before in (
       omega arith,
       omega arith,
-      passes (s .args .table .now) (s .args .configuration .now) (s .args .index .now) (s .pre .0) (s .args .from) (l .loop .i) (o .ordered .result) (n .number .result) (l .before .key .result)
-          (o .ordered .ensures) (n .number .ensures .is) (root-is (l .before)) (e .if1 .left) (c .if2 .left) (l .loop .inv .2),
+      passes (s .args .table .now) (s .args .index .now) (s .pre .0) (s .args .root) (s .args .from) (l .loop .i) (o .ordered .result) (n .number .result) (o .ordered .ensures) (n .number .ensures .is) (e .if1 .left) (c .if2 .left) (l .loop .inv .2),
     )
 
 returns-3 : tie.Need-returns-3 Inv-loop μ-loop
@@ -111,10 +83,6 @@ seek-spec =
     (tie.spec
     Inv-loop
     μ-loop
-    word-requires
-    word-requires-2
-    key-requires
-    cast-root
     loop-holds
     ordered-requires
     number-requires

@@ -1,14 +1,15 @@
--- How far lefts agree with terms: the left's nodes in preorder, each compared with the term where the walk has come.
+-- How far lefts agree with terms, computed: the left's nodes in preorder, each compared with the term where the walk has come.
+-- `proofs/CompareLaw`: where all agree it is `tryMatch`. `proofs/MisfitLaw`: where one does not, it is the place of `Disagrees`.
 use mathlib.Core.Bool.{_&&_, cond}
 use mathlib.Core.Option.{Option, none, some}
 use Prim.Native.Nat.{ℕ, suc, _+_}
-use Rattle.minuska.specs.Basics.{sameWhole}
-use Rattle.minuska.specs.Term.{Label, Forest, nil, node, Term, single, termCount, nodes, Role, aVariable, aCall, plain, role}
-use Rattle.minuska.specs.Word.{tagWord, datumWord}
+use lib.Dec.{eqb}
+use lib.ListN.{getElem?}
+use Rattle.minuska.specs.Term.{Label, Forest, nil, node, Term, single, termCount, nodes, nodeCount, Role, aVariable, aCall, plain, role}
 use Rattle.minuska.specs.Satisfaction.{Valuation}
-use Rattle.minuska.specs.Computed.Match.{assign, unbound}
-use Rattle.step.specs.declared.how_far.HowFar.{HowFar}
-use Rattle.step.specs.declared.how_far.HowFar.the-variants.{All, Until}
+use Rattle.minuska.specs.Rule.{Rule, Table}
+use Rattle.minuska.specs.Answer.{MatchResult, matched, misfit}
+use Rattle.minuska.specs.Computed.Match.{sameLabel, assign, unbound}
 
 -- all agree, under a valuation; or the place, from 0, of the first left node that does not
 pub data Comparison : Type 0 where
@@ -32,7 +33,7 @@ compareBound (some ρ) = agreed ρ
 abbrev pub compareAt : Role → Label → ℕ → Term → Valuation → (Valuation → Comparison) → Comparison
 compareAt (aVariable v) l k t ρ inside = compareBound (assign ρ v t)
 compareAt (aCall c) l k t ρ inside = apart 0
-compareAt plain l k t ρ inside = cond (sameWhole (tagWord l k) (tagWord (t .label) (termCount (t .children))) && sameWhole (datumWord l) (datumWord (t .label))) (later 1 (inside ρ)) (apart 0)
+compareAt plain l k t ρ inside = cond (sameLabel l (t .label) && eqb k (termCount (t .children))) (later 1 (inside ρ)) (apart 0)
 
 abbrev pub compare : Forest → Forest → Valuation → Comparison
 compare nil nil ρ = agreed ρ
@@ -41,14 +42,26 @@ compare (node l ls lss) nil ρ = apart 0
 compare (node l ls lss) (node g gs gss) ρ =
     after (suc (nodes ls)) (compareAt (role l) l (termCount ls) (record { label = g; children = gs }) ρ (λ σ. compare ls gs σ)) (λ σ. compare lss gss σ)
 
--- a left and a configuration: how many of the left's nodes agree, and the valuation if all do. `proofs/CompareLaw`: it is `tryMatch`'s.
+-- a left and a configuration: the valuation if all nodes agree, or the place of the first that does not
 abbrev pub comparison : Term → Term → Comparison
 comparison l g = compare (single l) (single g) unbound
-
-abbrev pub passedBy : Comparison → HowFar
-passedBy (agreed ρ) = All
-passedBy (apart k) = Until k
 
 abbrev pub boundBy : Comparison → Option Valuation
 boundBy (agreed ρ) = some ρ
 boundBy (apart k) = none
+
+-- how many of the left's nodes were compared: "all where the left fits, else those up to and including the one that disagrees"
+abbrev pub nodesCompared : Term → Comparison → MatchResult
+nodesCompared l (agreed ρ) = matched (nodeCount l)
+nodesCompared l (apart k) = misfit (suc k)
+
+abbrev pub matchLeft : Term → Term → MatchResult
+matchLeft l g = nodesCompared l (comparison l g)
+
+-- by a rule's number: one that names no rule does not match
+abbrev pub matchNumbered : Option Rule → Term → MatchResult
+matchNumbered none g = misfit 0
+matchNumbered (some r) g = matchLeft (r .left) g
+
+unfoldable pub matchRule : Table → ℕ → Term → MatchResult
+matchRule table n g = matchNumbered (getElem? table n) g
