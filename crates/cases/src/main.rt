@@ -1,4 +1,5 @@
 // Runs the cases that standard input lists, a line each; stdout has the expected answers. README.md has the form of a line.
+#![tactic(auto)]
 use libc::STDIN_FILENO;
 
 mod build;

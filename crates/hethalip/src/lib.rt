@@ -1,4 +1,5 @@
 // The C interface: each routine under a fixed name, its answer packed into one number.
+#![tactic(auto)]
 mod pack;
 
 ghost use Rattle.minuska.specs.Contract.{CheckTableContract, CheckConfigurationContract, MatchRuleContract, ReasonsContract, StepContract, StepByRuleContract, RunContract, ReplayContract};

@@ -1,4 +1,6 @@
 // What the routines answer. The meaning of each answer is in specs/, the laws are in proofs/: README.md says which files must be believed.
+#![tactic(auto)]
+
 pub mod limits;
 
 ghost use Rattle.std.specs.Prelude.{◌≡◌};
@@ -17,6 +19,7 @@ pub enum Refusal {
 }
 
 // Its number there.
+#[tactic(auto, unfolding(crate::specs::Answer::number))]
 pub fn number(refusal: Refusal) -> u64
     ensures { result ≡ number refusal }
 {

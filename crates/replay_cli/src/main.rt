@@ -1,4 +1,5 @@
 // Reads a request from standard input, and writes its answer.
+#![tactic(auto)]
 use cli::MAX_OUTPUT;
 use libc::{STDIN_FILENO, STDOUT_FILENO};
 
