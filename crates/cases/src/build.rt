@@ -87,7 +87,7 @@ fn signed(size: usize, minus: bool) -> i64 {
 }
 
 // How many words stand; where the open group starts, how many words it is to have, and the place of the one that rises; what is known of the next word.
-#[derive(Drop)]
+#[derive(Clone, Copy)]
 struct WordsSoFar {
     count: usize,
     start: usize,

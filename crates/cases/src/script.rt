@@ -3,7 +3,7 @@
 use crate::text;
 
 // How many words, and actions, are kept.
-#[derive(Drop)]
+#[derive(Clone, Copy)]
 struct Lengths {
     table: usize,
     configuration: usize,

@@ -3,7 +3,7 @@ ghost use Rattle.std.specs.Prelude.{◌≡◌, drop};
 ghost use Rattle.cli.specs.Computed.Lines.{end_from, next_line, lines_of};
 
 // Where the second, the third and the fourth line start; the first starts at 0, and the input ends with the fourth.
-#[derive(Drop)]
+#[derive(Clone, Copy)]
 pub enum Lines {
     Four {
         second: usize,

@@ -82,7 +82,7 @@ module _ (old : List ℕ) (at : ℕ) (n r : ℕ) (new : List ℕ) where
 
 -- a word is passed on by its bits
 pub kept_word : (z y : ℤ) → mag z < 2 ^ 63 → z ≡ y → to_z w64 (of_z w64 z) ≡ y
-kept_word z y p e = to_z-of_z (record { sfits = p }) ∙ e
+kept_word z y p e = to_z-of_z {w = w64} (record { sfits = p }) ∙ e
 
 -- ---- numbers, each behind a comma
 module _ {A : Type 0} (text : A → List ℕ) (old : List ℕ) (at : ℕ) (xs : List A) where

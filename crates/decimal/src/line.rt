@@ -6,27 +6,27 @@ use crate::number::Number;
 use crate::reader::next_number;
 
 // A word and its end.
-#[derive(Drop)]
+#[derive(Clone, Copy)]
 pub enum Word {
     Is { value: i64, end: usize },
     Bad,
 }
 
 // An action and its end.
-#[derive(Drop)]
+#[derive(Clone, Copy)]
 pub enum Action {
     Is { value: u16, end: usize },
     Bad,
 }
 
-#[derive(Drop)]
+#[derive(Clone, Copy)]
 pub enum Limit {
     Is(u64),
     Bad,
 }
 
 // How many numbers a line holds, all of them written to a slice.
-#[derive(Drop)]
+#[derive(Clone, Copy)]
 pub enum Count {
     Read(usize),
     Bad,

@@ -4,7 +4,7 @@ ghost use Rattle.decimal.specs.Computed.Number.{digit_of, digits_from, natural_f
 ghost use Rattle.decimal.specs.Number.{NumberContract};
 
 // A number and the place behind it. `Negative` is -1 - `below`, so that there is one zero.
-#[derive(Drop)]
+#[derive(Clone, Copy)]
 pub enum Number {
     Natural { value: u64, end: usize },
     Negative { below: u64, end: usize },

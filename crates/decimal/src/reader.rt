@@ -5,7 +5,7 @@ ghost use Rattle.decimal.specs.Number.{NumberContract, place_behind, NextContrac
 use crate::number::{Number, number_at};
 
 // A number, and the place that a reader comes to with it.
-#[derive(Drop)]
+#[derive(Clone, Copy)]
 pub struct Reading {
     pub number: Number,
     pub at: usize,

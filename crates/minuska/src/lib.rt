@@ -7,7 +7,7 @@ ghost use Rattle.std.specs.Prelude.{◌≡◌};
 ghost use Rattle.minuska.specs.Answer.{number};
 
 // Why a call is refused (document 01, "Turned back").
-#[derive(Drop)]
+#[derive(Clone, Copy)]
 pub enum Refusal {
     BadTable,
     BadConfiguration,
@@ -35,14 +35,14 @@ pub fn number(refusal: Refusal) -> u64
 }
 
 // A check of a table or of a configuration.
-#[derive(Drop)]
+#[derive(Clone, Copy)]
 pub enum Check {
     Good,
     Refused(Refusal),
 }
 
 // A step, or the step by one given rule: stuck where no rule applies, where that rule does not.
-#[derive(Drop)]
+#[derive(Clone, Copy)]
 pub enum StepAnswer {
     Stepped {
         rule: usize,
@@ -54,7 +54,7 @@ pub enum StepAnswer {
 }
 
 // A rule's left matched against a configuration, with how many of the left's nodes were compared (document 02, request 3).
-#[derive(Drop)]
+#[derive(Clone, Copy)]
 pub enum MatchAnswer {
     // it matches, and all were
     Matches(usize),
@@ -64,7 +64,7 @@ pub enum MatchAnswer {
 }
 
 // Why each rule does not apply to a configuration that is stuck; of one that is not, the step's rule (document 02, request 4).
-#[derive(Drop)]
+#[derive(Clone, Copy)]
 pub enum ReasonsAnswer {
     // stuck: the list has two words for each rule
     Listed,
@@ -74,7 +74,7 @@ pub enum ReasonsAnswer {
 }
 
 // A run, with its count of steps; `Over` is refusal 6.
-#[derive(Drop)]
+#[derive(Clone, Copy)]
 pub enum RunAnswer {
     Stuck(usize),
     Spent(usize),
@@ -83,7 +83,7 @@ pub enum RunAnswer {
 }
 
 // A replay; over the limit is refusal 6.
-#[derive(Drop)]
+#[derive(Clone, Copy)]
 pub enum ReplayAnswer {
     Reproduced,
     NotReproduced,

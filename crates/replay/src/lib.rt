@@ -17,7 +17,7 @@ use minuska::limits::MAX_ACTIONS;
 use minuska::{Check, INDEX_LEN, Index, Refusal, ReplayAnswer};
 
 // A replay's answer with the node count of the last configuration, for crates above: document 01 has none in the answer itself.
-#[derive(Drop)]
+#[derive(Clone, Copy)]
 pub enum CountedAnswer {
     Reproduced(usize),
     NotReproduced,

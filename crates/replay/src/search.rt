@@ -11,7 +11,7 @@ use memory::frame;
 use minuska::{Index, StepAnswer};
 
 // What one turn comes to.
-#[derive(Drop)]
+#[derive(Clone, Copy)]
 pub enum Turned {
     // On, at this depth.
     On(usize),
@@ -24,7 +24,7 @@ pub enum Turned {
 }
 
 // What the search finds.
-#[derive(Drop)]
+#[derive(Clone, Copy)]
 pub enum Found {
     // A path, whose last configuration, so many words, stands at the start of out.
     Path(usize),

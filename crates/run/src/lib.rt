@@ -13,7 +13,7 @@ use minuska::limits::MAX_STEPS;
 use minuska::{Check, INDEX_LEN, Index, RunAnswer, StepAnswer};
 
 // Where the current configuration stands: as it was given, in out, or in spare.
-#[derive(Drop)]
+#[derive(Clone, Copy)]
 enum Side {
     Initial,
     Out,
@@ -21,14 +21,14 @@ enum Side {
 }
 
 // What a step's answer comes to: on, with a successor of so many nodes, or an end.
-#[derive(Drop)]
+#[derive(Clone, Copy)]
 enum Progress {
     On(usize),
     End(RunAnswer),
 }
 
 // The answer, and where the last configuration stands.
-#[derive(Drop)]
+#[derive(Clone, Copy)]
 struct Ended {
     answer: RunAnswer,
     side: Side,

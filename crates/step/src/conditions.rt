@@ -4,7 +4,7 @@ ghost use Rattle.step.specs.Conditions.{SomeConditions, HoldAllIs};
 use term::Places;
 
 // How far conditions hold, one after the other.
-#[derive(Drop)]
+#[derive(Clone, Copy)]
 pub enum HowFar {
     // all of them
     All,

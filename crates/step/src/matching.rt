@@ -6,7 +6,7 @@ ghost use Rattle.step.specs.Matching.{LeftIn, MatchContract, TurnFrom, LeftTurne
 use term::{Places, VARIABLES};
 
 // How many of a left's nodes in preorder a walk compared.
-#[derive(Drop)]
+#[derive(Clone, Copy)]
 pub enum Compared {
     // all, and they agree
     All(usize),
@@ -15,7 +15,7 @@ pub enum Compared {
 }
 
 // What a node of a left finds at the configuration's term that the walk has come to.
-#[derive(Drop)]
+#[derive(Clone, Copy)]
 pub enum LeftTurn {
     // the same node
     Same,

@@ -8,7 +8,7 @@ use crate::rule::Verdict;
 use minuska::Index;
 
 // The earliest rule that applies.
-#[derive(Drop)]
+#[derive(Clone, Copy)]
 pub enum Earliest {
     Rule(usize),
     // none does: the configuration is stuck

@@ -64,7 +64,7 @@ pub fn item(
 }
 
 // How many words an item has, and the place behind it.
-#[derive(Drop)]
+#[derive(Clone, Copy)]
 pub struct Sized {
     pub words: usize,
     pub next: usize,
@@ -90,7 +90,7 @@ fn gives_one_node(table: &[i64], at: usize) -> bool
 }
 
 // An update's arguments' values, a dictionary, a key and a term, and the place behind it.
-#[derive(Drop)]
+#[derive(Clone, Copy)]
 pub struct Parts {
     pub dictionary: Value,
     pub key: Value,
@@ -209,7 +209,7 @@ pub fn measure_right<'a>(
 }
 
 // The place behind an item's words, and the place behind the item.
-#[derive(Drop)]
+#[derive(Clone, Copy)]
 pub struct Written {
     pub place: usize,
     pub next: usize,

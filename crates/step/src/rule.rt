@@ -11,7 +11,7 @@ use minuska::limits::MAX_TERM_NODES;
 use term::Places;
 
 // Whether a rule applies to a configuration, or why not.
-#[derive(Drop)]
+#[derive(Clone, Copy)]
 pub enum Verdict {
     // its left does not match: how many of the left's nodes in preorder were compared, the last of which disagrees
     Misfit(usize),

@@ -32,14 +32,14 @@ pub const FIXED: usize = 6;
 pub const LEAVES: usize = 7;
 
 // A part of a rule: the words of a table from one place up to another.
-#[derive(Drop)]
+#[derive(Clone, Copy)]
 pub struct Span {
     pub from: usize,
     pub to: usize,
 }
 
 // The sizes of a right: how many of its nodes give one node each, and how many are variables.
-#[derive(Drop)]
+#[derive(Clone, Copy)]
 pub struct RightSizes {
     pub fixed: usize,
     pub leaves: usize,

@@ -18,7 +18,7 @@ const PLAIN_FUNCTIONS: usize = 15;
 const ENTRIES: usize = term::MAX_ENTRIES as usize;
 
 // A node in range, with its child count, a call's code too; a variable's number. A literal is a dictionary: what stands below it is ground.
-#[derive(Drop)]
+#[derive(Clone, Copy)]
 pub enum Node {
     Plain(usize),
     Call(usize, usize),
@@ -28,7 +28,7 @@ pub enum Node {
 }
 
 // What one turn of a walk comes to: the place behind what it took, how many more terms of its level are to come, and whether it met a dictionary.
-#[derive(Drop)]
+#[derive(Clone, Copy)]
 pub enum Turn {
     On(usize, usize, bool),
     Bad,

@@ -13,7 +13,7 @@ use term::ground::Ranges;
 use term::{Place, VARIABLES};
 
 // The starts of a rule's right and of its conditions, and its end; the sizes of its right.
-#[derive(Drop)]
+#[derive(Clone, Copy)]
 pub enum Parts {
     At(usize, usize, usize, usize, usize),
     Nowhere,

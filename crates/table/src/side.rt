@@ -13,21 +13,21 @@ use term::ground::{Ground, Ranges};
 use term::{LOOKUP, UPDATE, VARIABLES};
 
 // What one turn of a side's walk comes to: the place behind what it took, how many more terms are to come, the sizes of what it took, and whether it met a dictionary.
-#[derive(Drop)]
+#[derive(Clone, Copy)]
 pub enum SideTurn {
     On(usize, usize, usize, usize, bool),
     Bad,
 }
 
 // The place behind a side, its sizes, and whether a dictionary is in it.
-#[derive(Drop)]
+#[derive(Clone, Copy)]
 pub enum SideEnd {
     At(usize, usize, usize, bool),
     Nowhere,
 }
 
 // The place behind a side, and its sizes: how many nodes it gives for certain, and how many terms of a match.
-#[derive(Drop)]
+#[derive(Clone, Copy)]
 pub enum Sized {
     At(usize, usize, usize),
     Nowhere,

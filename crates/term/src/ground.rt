@@ -104,14 +104,14 @@ pub fn is_ground(ranges: &Ranges, t: i64, d: i64) -> bool
 }
 
 // The place behind the terms that a walk has taken, and whether it met a dictionary; or that it found something else.
-#[derive(Drop)]
+#[derive(Clone, Copy)]
 pub enum Ground {
     At(usize, bool),
     Nowhere,
 }
 
 // How far a walk by tags comes: the place behind what it took, and how many terms are still to come there.
-#[derive(Drop)]
+#[derive(Clone, Copy)]
 pub struct Reached {
     pub at: usize,
     pub left: usize,

@@ -51,7 +51,7 @@ pub const MAX_ENTRIES: i64 = 64;
 pub type Places = [u32; VARIABLES];
 
 // The place behind what a walk has taken, or that it found something else.
-#[derive(Drop)]
+#[derive(Clone, Copy)]
 pub enum Place {
     At(usize),
     Nowhere,

@@ -10,7 +10,7 @@ use term::{DICTIONARY, SYMBOL, TRUTH, WHOLE};
 
 // The root of a term: the two words of its first node. The gap lies between them: they are written one by one, and would else be read back as one, for which a
 // machine has to wait.
-#[derive(Drop)]
+#[derive(Clone, Copy)]
 pub struct Root {
     pub tag: i64,
     pub gap: usize,

@@ -19,7 +19,7 @@ pub mod short; // calls whose value needs no recursion
 mod same; // whether two values are the same
 
 // Where a value is: a part of the table or of the configuration, from a place up to another; or two words, tag and datum, that were computed.
-#[derive(Drop)]
+#[derive(Clone, Copy)]
 pub enum Value {
     Table(usize, usize),
     Configuration(usize, usize),
@@ -27,14 +27,14 @@ pub enum Value {
 }
 
 // An expression's value, and the place behind the expression.
-#[derive(Drop)]
+#[derive(Clone, Copy)]
 pub struct Evaluated {
     pub value: Value,
     pub next: usize,
 }
 
 // Whether a side condition holds, and the place behind it.
-#[derive(Drop)]
+#[derive(Clone, Copy)]
 pub struct Tested {
     pub holds: bool,
     pub next: usize,

@@ -8,7 +8,7 @@ use crate::leaf::root;
 use term::{DICTIONARY, WHOLE};
 
 // Where a dictionary's value at a key stands; or that it has none.
-#[derive(Drop)]
+#[derive(Clone, Copy)]
 pub enum Found {
     At(usize, usize),
     Absent,

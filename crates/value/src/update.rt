@@ -10,7 +10,7 @@ use crate::leaf::root;
 use term::{DICTIONARY, ERROR, MAX_ENTRIES, WHOLE};
 
 // Where an entry goes among a dictionary's entries: the place where it starts, the place where what is behind it starts, and how many entries there are then.
-#[derive(Drop)]
+#[derive(Clone, Copy)]
 pub struct Slot {
     pub from: usize,
     pub to: usize,
@@ -18,7 +18,7 @@ pub struct Slot {
 }
 
 // What an update is worth: error; or the dictionary with an entry at this key, its places counted from the first key on.
-#[derive(Drop)]
+#[derive(Clone, Copy)]
 pub struct Plan {
     pub keeps: bool,
     pub from: usize,
