@@ -10,7 +10,7 @@ keep-requires c κs = search rules
 enter-requires : tie.Need-enter-requires
 enter-requires c κs = search rules
 
-same_length : tie.Need-same-length
+same_length : tie.Need-shape_of-work
 same_length c = search rules
 
 returns : tie.Need-returns
@@ -25,4 +25,8 @@ returns c =
     )
 
 pub enter_spec : {M : Type 1} → statement M
-enter_spec = tie.close (tie.spec keep-requires enter-requires same_length returns)
+enter_spec = tie.close (tie.spec
+    keep-requires
+    enter-requires
+    same_length
+    returns)

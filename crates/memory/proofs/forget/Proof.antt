@@ -32,59 +32,57 @@ cleared room m w₀ w i h fits k =
         let e : i ≡ x = omega arith in
         subst (λ (y : ℕ). get_or (set w (base room i + room) (pos 0)) (base room y + room) (pos 0) ≡ pos 0) e (get_or-set_same w (base room i + room) (pos 0) (pos 0) (omega (arith, frame_before room i m h, k.wide)))
 
-abbrev invariant-loop : tie.invariant-loop
+abbrev invariant-loop : tie.invariant-loop-i
 invariant-loop work₀ room actions i₀ work i = (i ≤ actions) × (base room actions ≤ length work₀) × (room ≤ 65536) × Cleared room actions work₀ work i
 
-abbrev decreases-loop : tie.decreases-loop
+abbrev decreases-loop : tie.decreases-loop-i
 decreases-loop work₀ room actions i₀ work i = actions - i
 
-loop-holds : tie.Need-loop-init invariant-loop decreases-loop
+loop-holds : tie.Need-loop-i-init invariant-loop decreases-loop
 loop-holds c = (omega arith, c.requires.0, c.requires.1, record { wide = refl; behind = refl; empty = λ k h. absurd (let f : ⊥ = omega arith in f) })
 
-base-at-requires : tie.Need-base-at-requires invariant-loop decreases-loop
+base-at-requires : tie.Need-base_at-at-requires invariant-loop decreases-loop
 base-at-requires c κs =
     let a = c.before.before.args in
-    let v = c.before.loop.invariant in
-    (v.2, omega (arith, frame_before a.room c.before.loop.i a.actions c.loop-test.true, v.1))
+    let v = c.before.loop-i.invariant in
+    (v.2, omega (arith, frame_before a.room c.before.loop-i.i a.actions c.loop-i-test.true, v.1))
 
-add-put : tie.Need-overflow-add-put invariant-loop decreases-loop
+add-put : tie.Need-overflow_add-at invariant-loop decreases-loop
 add-put c =
     let h = c.before.before.before in
     let a = h.before.args in
-    omega (arith, c.before.base-at.ensures, frame_before a.room h.loop.i a.actions c.before.before.loop-test.true, h.loop.invariant.1)
+    omega (arith, c.before.base_at-at.ensures, frame_before a.room h.loop-i.i a.actions c.before.before.loop-i-test.true, h.loop-i.invariant.1)
 
 put-requires : tie.Need-put-requires invariant-loop decreases-loop
 put-requires c κs =
     let h = c.before.before.before in
     let a = h.before.args in
-    (omega (arith, c.before.base-at.ensures, frame_before a.room h.loop.i a.actions c.before.before.loop-test.true, h.loop.invariant.1, h.loop.invariant.3.wide), omega arith)
+    (omega (arith, c.before.base_at-at.ensures, frame_before a.room h.loop-i.i a.actions c.before.before.loop-i-test.true, h.loop-i.invariant.1, h.loop-i.invariant.3.wide), omega arith)
 
-add-i : tie.Need-overflow-add-i invariant-loop decreases-loop
+add-i : tie.Need-overflow_add-i invariant-loop decreases-loop
 add-i c = omega arith
 
-loop-less : tie.Need-loop-smaller invariant-loop decreases-loop
+loop-less : tie.Need-loop-i-smaller invariant-loop decreases-loop
 loop-less c = omega arith
 
-loop-again : tie.Need-loop-preserved invariant-loop decreases-loop
+loop-again : tie.Need-loop-i-preserved invariant-loop decreases-loop
 loop-again c =
     let h = c.before.before.before.before.before in
     let a = h.before.args in
-    let v = h.loop.invariant in
-    let e : c.before.put.new.0 ≡ set h.loop.work (base a.room h.loop.i + a.room) (pos 0) = rw c.before.before.before.base-at.ensures at c.before.put.ensures in
-    (omega arith, v.1, v.2, rw e (cleared a.room a.actions a.work.now h.loop.work h.loop.i (omega arith) v.1 v.3))
+    let v = h.loop-i.invariant in
+    let e : c.before.put.new.0 ≡ set h.loop-i.work (base a.room h.loop-i.i + a.room) (pos 0) = rw c.before.before.before.base_at-at.ensures at c.before.put.ensures in
+    (omega arith, v.1, v.2, rw e (cleared a.room a.actions a.work.now h.loop-i.work h.loop-i.i (omega arith) v.1 v.3))
 
-same_length : tie.Need-same-length invariant-loop decreases-loop
-same_length c = c.before.loop.invariant.3.wide
+same_length : tie.Need-shape_of-work invariant-loop decreases-loop
+same_length c = c.before.loop-i.invariant.3.wide
 
 returns : tie.Need-returns invariant-loop decreases-loop
 returns c =
-    let v = c.before.loop.invariant in
-    record { wide = v.3.wide; behind = v.3.behind; empty = λ i h. v.3.empty i (omega (arith, c.loop-test.false)) }
+    let v = c.before.loop-i.invariant in
+    record { wide = v.3.wide; behind = v.3.behind; empty = λ i h. v.3.empty i (omega (arith, c.loop-i-test.false)) }
 
 pub forget_spec : {M : Type 1} → statement M
-forget_spec =
-    tie.close
-    (tie.spec
+forget_spec = tie.close (tie.spec
     invariant-loop
     decreases-loop
     loop-holds

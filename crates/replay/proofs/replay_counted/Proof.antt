@@ -15,100 +15,98 @@ use borrow.Author.Rules.{rules}
 use Rattle.replay.proofs.replay_counted.Statement.{statement}
 use Rattle.replay.proofs.replay_counted.Tie as tie
 
-accept-requires : tie.Need-accept-requires
+accept-requires : tie.Need-accept-accepted-requires
 accept-requires c κs = search rules
 
-enum-known-accepted : tie.Need-enum-known-accepted
+enum-known-accepted : tie.Need-enum_known-accepted
 enum-known-accepted c = search rules
 
-returns : tie.Need-returns
+returns : tie.Need-returns-in-Refused
 returns c =
     let u = c.before.before.before in
     let a = u.before.before.before.before.args in
-    not_accepted a.table.now a.configuration.now a.log.now a.limit a.out.now a.choices.now a.work.now _ u.accept.new.1.1.0 u.accept.result c.before.accepted.given.0.0 u.accept.ensures c.before.accepted.given.1
+    not_accepted a.table.now a.configuration.now a.log.now a.limit a.out.now a.choices.now a.work.now _ u.accept-accepted.new.1.1.0 u.accept-accepted.result c.before.accepted-1.given.0.0 u.accept-accepted.ensures c.before.accepted-1.given.1
 
-enum_told : tie.Need-enum-told
+enum_told : tie.Need-enum_told-1
 enum_told c = search rules
 
-replay-short-requires : tie.Need-replay-short-requires
+replay-short-requires : tie.Need-replay_short-short-requires
 replay-short-requires c κs = search rules
 
-check-sizes-requires : tie.Need-check-sizes-requires
+check-sizes-requires : tie.Need-check_sizes-sized-requires
 check-sizes-requires c κs = search rules
 
-enum-known-sized : tie.Need-enum-known-sized
+enum-known-sized : tie.Need-enum_known-sized
 enum-known-sized c = search rules
 
 -- what the check of the sizes says
-sizes : (z : tie.After-check-sizes) (r : Check) → z.check-sizes.result ≡ r → let a = z.before.before.before.before.before.before.before.before.args in
+sizes : (z : tie.After-check_sizes-sized) (r : Check) → z.check_sizes-sized.result ≡ r → let a = z.before.before.before.before.before.before.before.before.args in
     size_check (length a.log.now) max_actions (length a.configuration.now / 2) a.limit (replay_short a.limit a.log.now (length a.out.now) (length a.choices.now) (length a.work.now)) ≡ r
 sizes z r e =
     let a = z.before.before.before.before.before.before.before.before.args in
-    ap (λ (short : Bool). size_check (length a.log.now) max_actions (length a.configuration.now / 2) a.limit short) (sym z.before.replay-short.ensures) ∙ sym z.check-sizes.ensures ∙ e
+    ap (λ (short : Bool). size_check (length a.log.now) max_actions (length a.configuration.now / 2) a.limit short) (sym z.before.replay_short-short.ensures) ∙ sym z.check_sizes-sized.ensures ∙ e
 
 -- and where nothing is refused
-fitting : (m : tie.After-enum-told2) → let a = m.before.before.before.before.before.before.before.before.before.before.args in
+fitting : (m : tie.In_default-sized) → let a = m.before.before.before.before.before.before.before.before.before.before.args in
     SizesHold (length a.log.now) max_actions (length a.configuration.now / 2) a.limit (replay_short a.limit a.log.now (length a.out.now) (length a.choices.now) (length a.work.now))
 fitting m =
     let z = m.before.before in
     let a = z.before.before.before.before.before.before.before.before.args in
-    sized (length a.log.now) max_actions (length a.configuration.now / 2) a.limit (replay_short a.limit a.log.now (length a.out.now) (length a.choices.now) (length a.work.now)) (sizes z Good m.enum-told2.given.1)
+    sized (length a.log.now) max_actions (length a.configuration.now / 2) a.limit (replay_short a.limit a.log.now (length a.out.now) (length a.choices.now) (length a.work.now)) (sizes z Good m.enum_told-in_default-sized-1.given.1)
 
-returns-2 : tie.Need-returns-2
+returns-2 : tie.Need-returns-in-Refused-sized
 returns-2 c =
     let z = c.before.before.before in
     let k = z.before.before in
     let u = k.before.before in
     let a = u.before.before.before.before.args in
-    not_sized a.table.now a.configuration.now a.log.now a.limit a.out.now a.choices.now a.work.now _ u.accept.new.1.1.0 u.accept.result u.accept.ensures k.enum_told.given.1 c.before.sized.given.0.0 (sizes z (Refused c.before.sized.given.0.0) c.before.sized.given.1)
+    not_sized a.table.now a.configuration.now a.log.now a.limit a.out.now a.choices.now a.work.now _ u.accept-accepted.new.1.1.0 u.accept-accepted.result u.accept-accepted.ensures k.enum_told-1.given.1 c.before.sized-1.given.0.0 (sizes z (Refused c.before.sized-1.given.0.0) c.before.sized-1.given.1)
 
-enum-told-2 : tie.Need-enum-told-2
+enum-told-2 : tie.Need-enum_told-in_default-sized
 enum-told-2 c = search rules
 
-rule-count-requires : tie.Need-rule-count-requires
+rule-count-requires : tie.Need-rule_count-rules-requires
 rule-count-requires c κs =
     let k = c.before.before.before.before.before in
-    k.before.before.accept.ensures.indexed k.enum_told.given.1
+    k.before.before.accept-accepted.ensures.indexed k.enum_told-1.given.1
 
-mul-replay-accepted : tie.Need-overflow-mul-replay-accepted
+mul-replay-accepted : tie.Need-overflow_mul-limit
 mul-replay-accepted c = omega (arith, (fitting c.before.before.before).bounded)
 
-replay-accepted-requires : tie.Need-replay-accepted-requires
+replay-accepted-requires : tie.Need-replay_accepted-requires
 replay-accepted-requires c κs =
     let n = c.before.before.before.before in
     let m = n.before.before in
     let k = m.before.before.before.before in
     let u = k.before.before in
     let a = u.before.before.before.before.args in (
-      room_fits a.table.now a.configuration.now a.log.now a.limit a.out.now a.choices.now a.work.now _ u.accept.new.1.1.0 u.accept.result u.accept.ensures k.enum_told.given.1 (fitting m) n.rule_count.result n.rule_count.ensures,
+      room_fits a.table.now a.configuration.now a.log.now a.limit a.out.now a.choices.now a.work.now _ u.accept-accepted.new.1.1.0 u.accept-accepted.result u.accept-accepted.ensures k.enum_told-1.given.1 (fitting m) n.rule_count-rules.result n.rule_count-rules.ensures,
       (
-        slices_fit a.table.now a.configuration.now a.log.now a.limit a.out.now a.choices.now a.work.now _ u.accept.new.1.1.0 u.accept.result u.accept.ensures k.enum_told.given.1 (fitting m),
-        u.accept.ensures.accepted k.enum_told.given.1,
+        slices_fit a.table.now a.configuration.now a.log.now a.limit a.out.now a.choices.now a.work.now _ u.accept-accepted.new.1.1.0 u.accept-accepted.result u.accept-accepted.ensures k.enum_told-1.given.1 (fitting m),
+        u.accept-accepted.ensures.accepted k.enum_told-1.given.1,
       ),
     )
 
-same_length : tie.Need-same-length
+same_length : tie.Need-shape_of-out
 same_length c = search rules
 
-same-length-2 : tie.Need-same-length-2
+same-length-2 : tie.Need-shape_of-choices
 same-length-2 c = search rules
 
-same-length-3 : tie.Need-same-length-3
+same-length-3 : tie.Need-shape_of-work
 same-length-3 c = search rules
 
-returns-3 : tie.Need-returns-3
+returns-3 : tie.Need-returns
 returns-3 c =
     let v = c.before.before.before.before in
     let m = v.before.before.before.before.before.before.before in
     let k = m.before.before.before.before in
     let u = k.before.before in
     let a = u.before.before.before.before.args in
-    called a.table.now a.configuration.now a.log.now a.limit a.out.now a.choices.now a.work.now _ u.accept.new.1.1.0 u.accept.result u.accept.ensures k.enum_told.given.1 (fitting m) _ _ _ _ v.replay-accepted.ensures
+    called a.table.now a.configuration.now a.log.now a.limit a.out.now a.choices.now a.work.now _ u.accept-accepted.new.1.1.0 u.accept-accepted.result u.accept-accepted.ensures k.enum_told-1.given.1 (fitting m) _ _ _ _ v.replay_accepted.ensures
 
 pub replay_counted_spec : {M : Type 1} → statement M
-replay_counted_spec =
-    tie.close
-    (tie.spec
+replay_counted_spec = tie.close (tie.spec
     accept-requires
     enum-known-accepted
     returns

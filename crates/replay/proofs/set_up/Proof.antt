@@ -11,7 +11,7 @@ use borrow.Author.Rules.{rules}
 use Rattle.replay.proofs.set_up.Statement.{statement}
 use Rattle.replay.proofs.set_up.Tie as tie
 
-slice-aggregate-copy : tie.Need-slice-aggregate-copy
+slice-aggregate-copy : tie.Need-slice_bounds-copy-end
 slice-aggregate-copy c = sym (length-take-le c.before.before.args.room c.before.before.args.out.now c.before.before.requires.2)
 
 copy-requires : tie.Need-copy-requires
@@ -23,7 +23,7 @@ forget-requires c κs = search rules
 enter-requires : tie.Need-enter-requires
 enter-requires c κs = search rules
 
-same_length : tie.Need-same-length
+same_length : tie.Need-shape_of-work
 same_length c = search rules
 
 returns : tie.Need-returns
@@ -38,9 +38,7 @@ returns c =
     record { cleared = f.new.0; forgets = subst (λ (w : List ℤ). Forgets a.room a.actions w f.new.0) e f.ensures; is = c.before.enter.ensures }
 
 pub set_up_spec : {M : Type 1} → statement M
-set_up_spec =
-    tie.close
-    (tie.spec
+set_up_spec = tie.close (tie.spec
     slice-aggregate-copy
     copy-requires
     forget-requires

@@ -24,61 +24,59 @@ fits b s e = at_side b.args.configuration.now b.args.out.now b.args.spare.now b.
 write_same : (n : ℕ) (old : List ℤ) → n ≤ length old → write (take n old) old ≡ old
 write_same n old h = rw (length-take-le n old h) (take-append-drop n old)
 
-mul-end : tie.Need-overflow-mul-end
+mul-end : tie.Need-overflow_mul-end
 mul-end c = search rules
 
-enum_told : tie.Need-enum-told
+enum_told : tie.Need-enum_told-1
 enum_told c = search rules
 
-slice-aggregate-copy : tie.Need-slice-aggregate-copy
+slice-aggregate-copy : tie.Need-slice_bounds-copy-end
 slice-aggregate-copy c =
-    let h = fits c.before.before.before.before Initial c.before.before.enum_told.given.1 in
+    let h = fits c.before.before.before.before Initial c.before.before.enum_told-1.given.1 in
     simp length-take (omega arith)
 
 copy-requires : tie.Need-copy-requires
 copy-requires c κs =
-    let h = fits c.before.before.before.before Initial c.before.before.enum_told.given.1 in
+    let h = fits c.before.before.before.before Initial c.before.before.enum_told-1.given.1 in
     simp length-take (omega arith)
 
-enum-told-2 : tie.Need-enum-told-2
+enum-told-2 : tie.Need-enum_told-in-Out
 enum-told-2 c = search rules
 
-enum-told-3 : tie.Need-enum-told-3
+enum-told-3 : tie.Need-enum_told-in-Spare
 enum-told-3 c = search rules
 
-slice-aggregate-copy-2 : tie.Need-slice-aggregate-copy-2
+slice-aggregate-copy-2 : tie.Need-slice_bounds-copy-end-in-Spare
 slice-aggregate-copy-2 c =
-    let h = fits c.before.before.before.before Spare c.before.before.enum-told3.given.1 in
+    let h = fits c.before.before.before.before Spare c.before.before.enum_told-in-Spare-1.given.1 in
     simp length-take (omega arith)
 
-copy-requires-2 : tie.Need-copy-requires-2
+copy-requires-2 : tie.Need-copy-requires-in-Spare
 copy-requires-2 c κs =
-    let h = fits c.before.before.before.before Spare c.before.before.enum-told3.given.1 in
+    let h = fits c.before.before.before.before Spare c.before.before.enum_told-in-Spare-1.given.1 in
     simp length-take (omega arith)
 
-same_length : tie.Need-same-length
+same_length : tie.Need-shape_of-out-in-Initial
 same_length c = search rules
 
-returns : tie.Need-returns
+returns : tie.Need-returns-in-Initial
 returns c =
     let a = c.before.before.before.before.before.before.args in
-    rw c.before.before.before.before.enum_told.given.1 (c.before.copy.ensures ∙ paste_start a.out.now (take (2 * a.nodes) a.configuration.now))
+    rw c.before.before.before.before.enum_told-1.given.1 (c.before.copy.ensures ∙ paste_start a.out.now (take (2 * a.nodes) a.configuration.now))
 
-returns-2 : tie.Need-returns-2
-returns-2 c = rw c.enum-told2.given.1 (sym (write_same (2 * c.before.before.args.nodes) c.before.before.args.out.now c.before.before.requires.1))
+returns-2 : tie.Need-returns-in-Out
+returns-2 c = rw c.enum_told-in-Out-1.given.1 (sym (write_same (2 * c.before.before.args.nodes) c.before.before.args.out.now c.before.before.requires.1))
 
-same-length-2 : tie.Need-same-length-2
+same-length-2 : tie.Need-shape_of-out-in-Spare
 same-length-2 c = search rules
 
-returns-3 : tie.Need-returns-3
+returns-3 : tie.Need-returns-in-Spare
 returns-3 c =
     let a = c.before.before.before.before.before.before.args in
-    rw c.before.before.before.before.enum-told3.given.1 (c.before.copy2.ensures ∙ paste_start a.out.now (take (2 * a.nodes) a.spare.now))
+    rw c.before.before.before.before.enum_told-in-Spare-1.given.1 (c.before.copy-in-Spare.ensures ∙ paste_start a.out.now (take (2 * a.nodes) a.spare.now))
 
 pub bring_spec : {M : Type 1} → statement M
-bring_spec =
-    tie.close
-    (tie.spec
+bring_spec = tie.close (tie.spec
     mul-end
     enum_told
     slice-aggregate-copy

@@ -13,37 +13,37 @@ use Rattle.run.proofs.finish.Tie as tie
 bring-requires : tie.Need-bring-requires
 bring-requires c κs = search rules
 
-mul-end : tie.Need-overflow-mul-end
+mul-end : tie.Need-overflow_mul-end
 mul-end c = search rules
 
-mul-clear : tie.Need-overflow-mul-clear
+mul-clear : tie.Need-offset_bounds-out-end
 mul-clear c = search rules
 
-sub-clear : tie.Need-overflow-sub-clear
+sub-clear : tie.Need-slice_bounds-clear-count
 sub-clear c = search rules
 
-part-clear-start : tie.Need-slice-bounds-clear-start
+part-clear-start : tie.Need-slice_bounds-clear-start
 part-clear-start c = search rules
 
-part-clear-end : tie.Need-slice-bounds-clear-end
+part-clear-end : tie.Need-slice_bounds-clear-end
 part-clear-end c = search rules
 
 clear-requires : tie.Need-clear-requires
 clear-requires c κs = search rules
 
-slice-relend-prefix-clear : tie.Need-slice-relend-prefix-clear
+slice-relend-prefix-clear : tie.Need-slice_bounds-clear-end-2
 slice-relend-prefix-clear c = search rules
 
-slice-aggregate-clear : tie.Need-slice-aggregate-clear
+slice-aggregate-clear : tie.Need-slice_bounds-clear-end-3
 slice-aggregate-clear c = simp length-take (omega arith)
 
 clear-requires-2 : tie.Need-clear-requires-2
 clear-requires-2 c κs = search rules
 
-same_length : tie.Need-same-length
+same_length : tie.Need-shape_of-out
 same_length c = search rules
 
-same-length-2 : tie.Need-same-length-2
+same-length-2 : tie.Need-shape_of-spare
 same-length-2 c = search rules
 
 returns : tie.Need-returns
@@ -55,13 +55,11 @@ returns c =
     record {
       leaves = zeros_behind a.words (2 * a.nodes) (take (2 * a.nodes) last) a.out.now (length-take-le (2 * a.nodes) last b.requires.0) b.requires.1 b.requires.2
           k.before.before.before.bring.new.1.1.1.0 k.clear.new.0 k.before.before.before.bring.ensures k.clear.ensures;
-      leaves_spare = zeros_front a.words a.spare.now c.before.clear2.new.0 b.requires.3 c.before.clear2.ensures;
+      leaves_spare = zeros_front a.words a.spare.now c.before.clear-2.new.0 b.requires.3 c.before.clear-2.ensures;
     }
 
 pub finish_spec : {M : Type 1} → statement M
-finish_spec =
-    tie.close
-    (tie.spec
+finish_spec = tie.close (tie.spec
     bring-requires
     mul-end
     mul-clear

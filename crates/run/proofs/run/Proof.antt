@@ -19,76 +19,74 @@ use Rattle.run.proofs.run.Tie as tie
 accept-requires : tie.Need-accept-requires
 accept-requires c κs = search rules
 
-enum-known-number : tie.Need-enum-known-number
+enum-known-number : tie.Need-enum_known-number
 enum-known-number c = search rules
 
-returns : tie.Need-returns
+returns : tie.Need-returns-in-Refused
 returns c =
     let b = c.before.before.before in
     let a = b.before.before.args in
-    let n = c.before.number.given in
+    let n = c.before.number-1.given in
     turned_back_lem a.table.now a.configuration.now a.budget a.limit a.out.now a.spare.now n.0.0
     (early_refused a.table.now a.configuration.now a.budget a.limit (length a.out.now) (length a.spare.now) n.0.0 (sym b.accept.ensures.answer ∙ n.1))
 
-enum_told : tie.Need-enum-told
+enum_told : tie.Need-enum_told-1
 enum_told c = search rules
 
-run-short-requires : tie.Need-run-short-requires
+run-short-requires : tie.Need-run_short-short-requires
 run-short-requires c κs = search rules
 
-check-sizes-requires : tie.Need-check-sizes-requires
+check-sizes-requires : tie.Need-check_sizes-requires
 check-sizes-requires c κs = search rules
 
 -- the words are accepted
-indexed : (d : tie.After-enum-told) → let b = d.before.before in Indexed b.before.before.args.table.now b.accept.new.1.1.0
-indexed d = d.before.before.accept.ensures.indexed d.enum_told.given.1
+indexed : (d : tie.In_default) → let b = d.before.before in Indexed b.before.before.args.table.now b.accept.new.1.1.0
+indexed d = d.before.before.accept.ensures.indexed d.enum_told-1.given.1
 
-accepted : (d : tie.After-enum-told) → Accepted d.before.before.before.before.args.configuration.now
-accepted d = d.before.before.accept.ensures.accepted d.enum_told.given.1
+accepted : (d : tie.In_default) → Accepted d.before.before.before.before.args.configuration.now
+accepted d = d.before.before.accept.ensures.accepted d.enum_told-1.given.1
 
 -- what the check of the sizes says
-sizes : (z : tie.After-check-sizes) (r : Check) → z.check-sizes.result ≡ r → let a = z.before.before.before.before.before.before.args in
+sizes : (z : tie.After-check_sizes) (r : Check) → z.check_sizes.result ≡ r → let a = z.before.before.before.before.before.before.args in
     size_check a.budget max_steps (length a.configuration.now / 2) a.limit (run_short a.limit (length a.out.now) (length a.spare.now)) ≡ r
 sizes z r e =
     let a = z.before.before.before.before.before.before.args in
-    ap (λ (short : Bool). size_check a.budget max_steps (length a.configuration.now / 2) a.limit short) (sym z.before.run_short.ensures) ∙ sym z.check-sizes.ensures ∙ e
+    ap (λ (short : Bool). size_check a.budget max_steps (length a.configuration.now / 2) a.limit short) (sym z.before.run_short-short.ensures) ∙ sym z.check_sizes.ensures ∙ e
 
-enum-known-number-2 : tie.Need-enum-known-number-2
+enum-known-number-2 : tie.Need-enum_known-number-in-Refused-check_sizes
 enum-known-number-2 c = search rules
 
-returns-2 : tie.Need-returns-2
+returns-2 : tie.Need-returns-in-Refused-check_sizes
 returns-2 c =
     let z = c.before.before.before in
     let d = z.before.before in
     let a = d.before.before.before.before.args in
-    let n = c.before.number2.given in
+    let n = c.before.number-in-Refused-check_sizes-1.given in
     turned_back_lem a.table.now a.configuration.now a.budget a.limit a.out.now a.spare.now n.0.0
     (late_refused a.table.now a.configuration.now a.budget a.limit (length a.out.now) (length a.spare.now) (indexed d).table (accepted d).term (indexed d).is (accepted d).is n.0.0 (sizes z _ n.1))
 
-enum-told-2 : tie.Need-enum-told-2
+enum-told-2 : tie.Need-enum_told-in_default-check_sizes
 enum-told-2 c = search rules
 
-run-accepted-requires : tie.Need-run-accepted-requires
+run-accepted-requires : tie.Need-run_accepted-requires
 run-accepted-requires c κs =
     let y = c.before.before.before in
     let z = y.before.before in
     let d = z.before.before in
     let a = d.before.before.before.before.args in
-    (indexed d, accepted d, sized a.budget max_steps (length a.configuration.now / 2) a.limit (run_short a.limit (length a.out.now) (length a.spare.now)) (sizes z Good y.enum-told2.given.1))
+    (indexed d, accepted d, sized a.budget max_steps (length a.configuration.now / 2) a.limit (run_short a.limit (length a.out.now) (length a.spare.now)) (sizes z Good y.enum_told-in_default-check_sizes-1.given.1))
 
-same_length : tie.Need-same-length
+same_length : tie.Need-shape_of-out
 same_length c = search rules
 
-same-length-2 : tie.Need-same-length-2
+same-length-2 : tie.Need-shape_of-spare
 same-length-2 c = search rules
 
-returns-3 : tie.Need-returns-3
+returns-3 : tie.Need-returns
 returns-3 c = search rules
 
 pub run_spec : {M : Type 1} → statement M
-run_spec =
-    tie.close
-    (tie.spec
+run_spec = tie.close (tie.spec
     accept-requires
     enum-known-number
     returns

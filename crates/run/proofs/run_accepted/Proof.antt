@@ -8,10 +8,10 @@ use Rattle.run.proofs.EndingLaw.{ended}
 use Rattle.run.proofs.run_accepted.Statement.{statement}
 use Rattle.run.proofs.run_accepted.Tie as tie
 
-advance-requires : tie.Need-advance-requires
+advance-requires : tie.Need-advance-ended-requires
 advance-requires c κs = search rules
 
-mul_words : tie.Need-overflow-mul-words
+mul_words : tie.Need-overflow_mul-words
 mul_words c = search rules
 
 finish-requires : tie.Need-finish-requires
@@ -20,14 +20,14 @@ finish-requires c κs =
     let s = d.before.before.before in
     let a = s.args in
     let w = roomy (length a.configuration.now / 2) a.budget a.limit (length a.out.now) (length a.spare.now) s.requires.2 in
-    let e = d.advance.ensures in
+    let e = d.advance-ended.ensures in
     let f = e.fits in
-    (e.within, omega arith, omega (arith, w.0, d.advance.auto), omega (arith, w.1, d.advance.auto))
+    (e.within, omega arith, omega (arith, w.0, d.advance-ended.auto), omega (arith, w.1, d.advance-ended.auto))
 
-same_length : tie.Need-same-length
+same_length : tie.Need-shape_of-out
 same_length c = search rules
 
-same-length-2 : tie.Need-same-length-2
+same-length-2 : tie.Need-shape_of-spare
 same-length-2 c = search rules
 
 returns : tie.Need-returns
@@ -35,10 +35,14 @@ returns c =
     let f = c.before.before.finish in
     let d = c.before.before.before.before.before.before.before in
     let a = d.before.before.before.args in
-    ended a.table.now a.configuration.now a.budget a.limit a.out.now a.spare.now d.advance.result d.advance.new.1.1.1.1.1.0 d.advance.new.1.1.1.1.1.1.0
-    f.new.1.1.1.1.0 f.new.1.1.1.1.1.0 d.advance.ensures f.ensures
+    ended a.table.now a.configuration.now a.budget a.limit a.out.now a.spare.now d.advance-ended.result d.advance-ended.new.1.1.1.1.1.0 d.advance-ended.new.1.1.1.1.1.1.0
+    f.new.1.1.1.1.0 f.new.1.1.1.1.1.0 d.advance-ended.ensures f.ensures
 
 pub run_accepted_spec : {M : Type 1} → statement M
-run_accepted_spec =
-    tie.close
-    (tie.spec advance-requires mul_words finish-requires same_length same-length-2 returns)
+run_accepted_spec = tie.close (tie.spec
+    advance-requires
+    mul_words
+    finish-requires
+    same_length
+    same-length-2
+    returns)

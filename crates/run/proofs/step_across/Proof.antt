@@ -12,73 +12,71 @@ use Rattle.run.proofs.step_across.Tie as tie
 reads_from : (b : tie.Start) (s : Side) → b.args.side ≡ s → StartsWith (by_side s b.args.configuration.now b.args.out.now b.args.spare.now) b.args.nodes
 reads_from b s e = at_side b.args.configuration.now b.args.out.now b.args.spare.now b.args.side (λ l. StartsWith l b.args.nodes) s e b.requires.1
 
-enum_told : tie.Need-enum-told
+enum_told : tie.Need-enum_told-1
 enum_told c = search rules
 
-step-into-requires : tie.Need-step-into-requires
+step-into-requires : tie.Need-step_into-requires
 step-into-requires c κs =
     let b = c.before.before.before in
-    (b.requires.0, reads_from b Initial c.before.enum_told.given.1, b.requires.2)
+    (b.requires.0, reads_from b Initial c.before.enum_told-1.given.1, b.requires.2)
 
-enum-told-2 : tie.Need-enum-told-2
+enum-told-2 : tie.Need-enum_told-in-Out
 enum-told-2 c = search rules
 
-step-into-requires-2 : tie.Need-step-into-requires-2
+step-into-requires-2 : tie.Need-step_into-requires-in-Out
 step-into-requires-2 c κs =
     let b = c.before.before.before.before in
-    (b.requires.0, reads_from b Out c.before.before.enum-told2.given.1, b.requires.3)
+    (b.requires.0, reads_from b Out c.before.before.enum_told-in-Out-1.given.1, b.requires.3)
 
-enum-told-3 : tie.Need-enum-told-3
+enum-told-3 : tie.Need-enum_told-in-Spare
 enum-told-3 c = search rules
 
-step-into-requires-3 : tie.Need-step-into-requires-3
+step-into-requires-3 : tie.Need-step_into-requires-in-Spare
 step-into-requires-3 c κs =
     let b = c.before.before.before.before in
-    (b.requires.0, reads_from b Spare c.before.before.enum-told3.given.1, b.requires.2)
+    (b.requires.0, reads_from b Spare c.before.before.enum_told-in-Spare-1.given.1, b.requires.2)
 
-same_length : tie.Need-same-length
+same_length : tie.Need-shape_of-out-in-Initial
 same_length c = search rules
 
-returns : tie.Need-returns
+returns : tie.Need-returns-in-Initial
 returns c =
     let s = c.before.step-into in
     let b = c.before.before.before.before.before in
     let a = b.args in
     across_at a.configuration.now a.out.now a.spare.now a.side a.table.now s.new.1.1.1.1.0 a.spare.now a.nodes a.words s.result Initial
-    c.before.before.before.enum_told.given.1 s.ensures refl
+    c.before.before.before.enum_told-1.given.1 s.ensures refl
 
-same-length-2 : tie.Need-same-length-2
+same-length-2 : tie.Need-shape_of-out-in-Out
 same-length-2 c = search rules
 
-same-length-3 : tie.Need-same-length-3
+same-length-3 : tie.Need-shape_of-spare-in-Out
 same-length-3 c = search rules
 
-returns-2 : tie.Need-returns-2
+returns-2 : tie.Need-returns-in-Out
 returns-2 c =
     let s = c.before.step-into2 in
     let b = c.before.before.before.before.before.before in
     let a = b.args in
     across_at a.configuration.now a.out.now a.spare.now a.side a.table.now a.out.now s.new.1.1.1.1.0 a.nodes a.words s.result Out
-    c.before.before.before.before.enum-told2.given.1 s.ensures refl
+    c.before.before.before.before.enum_told-in-Out-1.given.1 s.ensures refl
 
-same-length-4 : tie.Need-same-length-4
+same-length-4 : tie.Need-shape_of-out-in-Spare
 same-length-4 c = search rules
 
-same-length-5 : tie.Need-same-length-5
+same-length-5 : tie.Need-shape_of-spare-in-Spare
 same-length-5 c = search rules
 
-returns-3 : tie.Need-returns-3
+returns-3 : tie.Need-returns-in-Spare
 returns-3 c =
     let s = c.before.step-into3 in
     let b = c.before.before.before.before.before.before in
     let a = b.args in
     across_at a.configuration.now a.out.now a.spare.now a.side a.table.now s.new.1.1.1.1.0 a.spare.now a.nodes a.words s.result Spare
-    c.before.before.before.before.enum-told3.given.1 s.ensures refl
+    c.before.before.before.before.enum_told-in-Spare-1.given.1 s.ensures refl
 
 pub step_across_spec : {M : Type 1} → statement M
-step_across_spec =
-    tie.close
-    (tie.spec
+step_across_spec = tie.close (tie.spec
     enum_told
     step-into-requires
     enum-told-2

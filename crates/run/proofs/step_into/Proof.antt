@@ -9,22 +9,22 @@ use Rattle.run.proofs.SidesLaw.{steps_into}
 use Rattle.run.proofs.step_into.Statement.{statement}
 use Rattle.run.proofs.step_into.Tie as tie
 
-mul-end : tie.Need-overflow-mul-end
+mul-end : tie.Need-overflow_mul-end
 mul-end c = search rules
 
-slice-aggregate-apply-earliest : tie.Need-slice-aggregate-apply-earliest
+slice-aggregate-apply-earliest : tie.Need-slice_bounds-apply_earliest-end
 slice-aggregate-apply-earliest c = simp length-take (omega arith)
 
-slice-relend-prefix-apply-earliest : tie.Need-slice-relend-prefix-apply-earliest
+slice-relend-prefix-apply-earliest : tie.Need-slice_bounds-apply_earliest-end-2
 slice-relend-prefix-apply-earliest c = search rules
 
-slice-aggregate-apply-earliest-2 : tie.Need-slice-aggregate-apply-earliest-2
+slice-aggregate-apply-earliest-2 : tie.Need-slice_bounds-apply_earliest-end-3
 slice-aggregate-apply-earliest-2 c = simp length-take (omega arith)
 
-apply-earliest-requires : tie.Need-apply-earliest-requires
+apply-earliest-requires : tie.Need-apply_earliest-requires
 apply-earliest-requires c κs = search rules
 
-same_length : tie.Need-same-length
+same_length : tie.Need-shape_of-to
 same_length c = search rules
 
 returns : tie.Need-returns
@@ -32,12 +32,10 @@ returns c =
     let b = c.before.before.before.before in
     let a = b.args in
     let l = length-take-le a.words a.to.now b.requires.2 in
-    steps_into a.table.now (take (2 * a.nodes) a.from.now) a.words a.to.now c.before.apply-earliest.new.1.1.1.0 c.before.apply-earliest.result l c.before.apply-earliest.ensures (c.before.apply-earliest.auto.1.1.1.0 ∙ l)
+    steps_into a.table.now (take (2 * a.nodes) a.from.now) a.words a.to.now c.before.apply_earliest.new.1.1.1.0 c.before.apply_earliest.result l c.before.apply_earliest.ensures (c.before.apply_earliest.auto.1.1.1.0 ∙ l)
 
 pub step_into_spec : {M : Type 1} → statement M
-step_into_spec =
-    tie.close
-    (tie.spec
+step_into_spec = tie.close (tie.spec
     mul-end
     slice-aggregate-apply-earliest
     slice-relend-prefix-apply-earliest

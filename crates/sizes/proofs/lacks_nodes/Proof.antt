@@ -7,4 +7,5 @@ returns : tie.Need-returns
 returns c = nodes_lacked c.args.words c.args.nodes
 
 pub lacks_nodes_spec : {M : Type 1} → statement M
-lacks_nodes_spec = tie.close (tie.spec returns)
+lacks_nodes_spec = tie.close (tie.spec
+    returns)

@@ -4,39 +4,37 @@ use Rattle.step.proofs.accept.Statement.{statement}
 use Rattle.step.proofs.accept.Tie as tie
 
 -- src/lib.rt:153:11
-index-table-requires : tie.Need-index-table-requires
+index-table-requires : tie.Need-index_table-requires
 index-table-requires c κs = search rules
 
 -- src/lib.rt:154:24
-enum_told : tie.Need-enum-told
+enum_told : tie.Need-enum_told-1
 enum_told c = search rules
 
 -- src/lib.rt:154:24
-check-configuration-requires : tie.Need-check-configuration-requires
+check-configuration-requires : tie.Need-check_configuration-requires
 check-configuration-requires c κs = search rules
 
 -- src/lib.rt:155:24
-enum-known-r : tie.Need-enum-known-r
+enum-known-r : tie.Need-enum_known-r
 enum-known-r c = search rules
 
 -- src/lib.rt:150:1
-returns : tie.Need-returns
+returns : tie.Need-returns-in-Good
 returns c =
     let t = c.before.before.before in
     let s = t.before.before in
-    good_accepted s.args.table.now s.args.configuration.now s.args.index.now t.index-table.new.1.0 t.index-table.result t.index-table.ensures c.before.enum_told.given.1 c.check-configuration.result c.check-configuration.ensures
+    good_accepted s.args.table.now s.args.configuration.now s.args.index.now t.index_table.new.1.0 t.index_table.result t.index_table.ensures c.before.enum_told-1.given.1 c.check_configuration.result c.check_configuration.ensures
 
 -- src/lib.rt:150:1
-returns-2 : tie.Need-returns-2
+returns-2 : tie.Need-returns-in-Refused
 returns-2 c =
     let t = c.before.before.before in
     let s = t.before.before in
-    refused_accepted s.args.table.now s.args.configuration.now s.args.index.now t.index-table.new.1.0 t.index-table.result t.index-table.ensures c.before.r.given.0.0 c.before.r.given.1
+    refused_accepted s.args.table.now s.args.configuration.now s.args.index.now t.index_table.new.1.0 t.index_table.result t.index_table.ensures c.before.r-1.given.0.0 c.before.r-1.given.1
 
 pub accept_spec : {M : Type 1} → statement M
-accept_spec =
-    tie.close
-    (tie.spec
+accept_spec = tie.close (tie.spec
     index-table-requires
     enum_told
     check-configuration-requires

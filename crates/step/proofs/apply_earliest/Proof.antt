@@ -8,49 +8,49 @@ use Rattle.step.proofs.apply_earliest.Statement.{statement}
 use Rattle.step.proofs.apply_earliest.Tie as tie
 
 -- every position
-module _ (r : tie.After-rule-count) where
+module _ (r : tie.After-rule_count-count) where
   abbrev start : tie.Start
   start = r.before.before
 
-  every : Positions start.args.table.now r.rule_count.result
-  every = positions_of start.args.table.now r.rule_count.result r.rule_count.result r.rule_count.ensures (omega arith)
+  every : Positions start.args.table.now r.rule_count-count.result
+  every = positions_of start.args.table.now r.rule_count-count.result r.rule_count-count.result r.rule_count-count.ensures (omega arith)
 
-rule-count-requires : tie.Need-rule-count-requires
+rule-count-requires : tie.Need-rule_count-count-requires
 rule-count-requires c κs = search rules
 
-seek-requires : tie.Need-seek-requires
+seek-requires : tie.Need-seek-first-requires
 seek-requires c κs = ((start c).requires.0, every c, omega arith)
 
-root-requires : tie.Need-root-requires
+root-requires : tie.Need-root-root-requires
 root-requires c κs = c.requires.1
 
-returns : tie.Need-returns
+returns : tie.Need-returns-then-count-first
 returns c =
     let k = c.before in
     let r = k.before in
     let s = start r in
     let a = s.args in
-    none_at_all a.table.now a.configuration.now a.index.now a.out.now s.pre.0 s.pre.1 r.rule_count.result r.rule_count.ensures r.before.root.result k.seek.result r.before.root.ensures k.seek.ensures c.if1.true
+    none_at_all a.table.now a.configuration.now a.index.now a.out.now s.pre.0 s.pre.1 r.rule_count-count.result r.rule_count-count.ensures r.before.root-root.result k.seek-first.result r.before.root-root.ensures k.seek-first.ensures c.if-count-first.true
 
-ordered-requires : tie.Need-ordered-requires
+ordered-requires : tie.Need-ordered-rule-requires
 ordered-requires c κs = search rules
 
-add-apply-among : tie.Need-overflow-add-apply-among
+add-apply-among : tie.Need-overflow_add-first
 add-apply-among c = search rules
 
-apply-among-requires : tie.Need-apply-among-requires
+apply-among-requires : tie.Need-apply_among-requires
 apply-among-requires c κs =
     let o = c.before.before in
     let e = o.before in
     let k = e.before in
     let r = k.before in
     let s = start r in
-    ((s.pre.0, s.pre.1), (position_names s.pre.0 (every r) e.if1.false o.ordered.ensures, every r, (let h = e.if1.false in omega arith), record { is = λ h. r.before.root.ensures }))
+    ((s.pre.0, s.pre.1), (position_names s.pre.0 (every r) e.if-count-first.false o.ordered-rule.ensures, every r, (let h = e.if-count-first.false in omega arith), record { is = λ h. r.before.root-root.ensures }))
 
-same_length : tie.Need-same-length
+same_length : tie.Need-shape_of-out
 same_length c = search rules
 
-returns-2 : tie.Need-returns-2
+returns-2 : tie.Need-returns
 returns-2 c =
     let w = c.before in
     let o = w.before.before.before in
@@ -59,12 +59,10 @@ returns-2 c =
     let r = k.before in
     let s = start r in
     let a = s.args in
-    the_earliest a.table.now a.configuration.now a.index.now a.out.now s.pre.0 s.pre.1 r.rule_count.result r.rule_count.ensures r.before.root.result k.seek.result r.before.root.ensures k.seek.ensures o.ordered.result _ _ _ w.apply-among.result e.if1.false o.ordered.ensures w.apply-among.ensures
+    the_earliest a.table.now a.configuration.now a.index.now a.out.now s.pre.0 s.pre.1 r.rule_count-count.result r.rule_count-count.ensures r.before.root-root.result k.seek-first.result r.before.root-root.ensures k.seek-first.ensures o.ordered-rule.result _ _ _ w.apply_among.result e.if-count-first.false o.ordered-rule.ensures w.apply_among.ensures
 
 pub apply_earliest_spec : {M : Type 1} → statement M
-apply_earliest_spec =
-    tie.close
-    (tie.spec
+apply_earliest_spec = tie.close (tie.spec
     root-requires
     rule-count-requires
     seek-requires

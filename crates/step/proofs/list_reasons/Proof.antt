@@ -6,59 +6,59 @@ use Rattle.step.proofs.StuckLaw.{all_ones, short_list, not_stuck_lem, some_coded
 use Rattle.step.proofs.list_reasons.Statement.{statement}
 use Rattle.step.proofs.list_reasons.Tie as tie
 
-rule-count-requires : tie.Need-rule-count-requires
+rule-count-requires : tie.Need-rule_count-count-requires
 rule-count-requires c κs = search rules
 
-mul-if1 : tie.Need-overflow-mul-if1
+mul-if1 : tie.Need-overflow_mul-count
 mul-if1 c =
     let x = c.before.requires.0 in
-    let e = c.rule_count.ensures.is x.table x.is in
+    let e = c.rule_count-count.ensures.is x.table x.is in
     record { fits = omega (arith, few_rules x.table x.is.accepted) }
 
-returns : tie.Need-returns
+returns : tie.Need-returns-then-list-count
 returns c =
     let r = c.before in
     let s = r.before in
     let a = s.args in
-    short_list a.table.now a.configuration.now a.index.now a.list.now s.requires.0 s.requires.1 r.rule_count.result r.rule_count.ensures c.if1.true
+    short_list a.table.now a.configuration.now a.index.now a.list.now s.requires.0 s.requires.1 r.rule_count-count.result r.rule_count-count.ensures c.if-list-count.true
 
-slice-aggregate-judge-all : tie.Need-slice-aggregate-judge-all
+slice-aggregate-judge-all : tie.Need-slice_bounds-judge_all-end
 slice-aggregate-judge-all c = search rules
 
-judge-all-requires : tie.Need-judge-all-requires
-judge-all-requires c κs = let r = c.before.before in (r.before.requires.0, r.before.requires.1, r.rule_count.ensures, all_ones)
+judge-all-requires : tie.Need-judge_all-requires
+judge-all-requires c κs = let r = c.before.before in (r.before.requires.0, r.before.requires.1, r.rule_count-count.ensures, all_ones)
 
-enum-known-rule : tie.Need-enum-known-rule
+enum-known-rule : tie.Need-enum_known-rule
 enum-known-rule c = search rules
 
-enum_told : tie.Need-enum-told
+enum_told : tie.Need-enum_told-1
 enum_told c = search rules
 
-slice-aggregate-put-all : tie.Need-slice-aggregate-put-all
+slice-aggregate-put-all : tie.Need-slice_bounds-put_all-end
 slice-aggregate-put-all c = search rules
 
-put-all-requires : tie.Need-put-all-requires
+put-all-requires : tie.Need-put_all-requires
 put-all-requires c κs =
     let j = c.before.before.before.before.before in
     let n = j.before.before in
     let r = n.before in
     let s = r.before in
     let a = s.args in
-    (some_coded a.table.now a.configuration.now a.index.now a.list.now s.requires.0 s.requires.1 r.rule_count.result r.rule_count.ensures n.if1.false _ j.judge-all.result j.judge-all.ensures c.before.before.enum_told.given.1, n.if1.false)
+    (some_coded a.table.now a.configuration.now a.index.now a.list.now s.requires.0 s.requires.1 r.rule_count-count.result r.rule_count-count.ensures n.if-list-count.false _ j.judge_all.result j.judge_all.ensures c.before.before.enum_told-1.given.1, n.if-list-count.false)
 
-returns-2 : tie.Need-returns-2
+returns-2 : tie.Need-returns-in-Rule
 returns-2 c =
     let j = c.before.before.before.before in
     let n = j.before.before in
     let r = n.before in
     let s = r.before in
     let a = s.args in
-    not_stuck_lem a.table.now a.configuration.now a.index.now a.list.now s.requires.0 s.requires.1 r.rule_count.result r.rule_count.ensures n.if1.false _ j.judge-all.result j.judge-all.ensures c.before.rule.given.0.0 c.before.rule.given.1
+    not_stuck_lem a.table.now a.configuration.now a.index.now a.list.now s.requires.0 s.requires.1 r.rule_count-count.result r.rule_count-count.ensures n.if-list-count.false _ j.judge_all.result j.judge_all.ensures c.before.rule-1.given.0.0 c.before.rule-1.given.1
 
-same_length : tie.Need-same-length
+same_length : tie.Need-shape_of-list
 same_length c = search rules
 
-returns-3 : tie.Need-returns-3
+returns-3 : tie.Need-returns-in-Nothing
 returns-3 c =
     let p = c.before in
     let j = p.before.before.before.before.before.before in
@@ -66,12 +66,10 @@ returns-3 c =
     let r = n.before in
     let s = r.before in
     let a = s.args in
-    all_listed a.table.now a.configuration.now a.index.now a.list.now s.requires.0 s.requires.1 r.rule_count.result r.rule_count.ensures n.if1.false _ j.judge-all.result j.judge-all.ensures p.before.before.before.enum_told.given.1 _ p.put_all.ensures
+    all_listed a.table.now a.configuration.now a.index.now a.list.now s.requires.0 s.requires.1 r.rule_count-count.result r.rule_count-count.ensures n.if-list-count.false _ j.judge_all.result j.judge_all.ensures p.before.before.before.enum_told-1.given.1 _ p.put_all.ensures
 
 pub list_reasons_spec : {M : Type 1} → statement M
-list_reasons_spec =
-    tie.close
-    (tie.spec
+list_reasons_spec = tie.close (tie.spec
     rule-count-requires
     mul-if1
     returns

@@ -8,27 +8,31 @@ use Rattle.step.proofs.match_rule.Tie as tie
 accept-requires : tie.Need-accept-requires
 accept-requires c κs = search rules
 
-enum_told : tie.Need-enum-told
+enum_told : tie.Need-enum_told-1
 enum_told c = search rules
 
-compare-rule-requires : tie.Need-compare-rule-requires
+compare-rule-requires : tie.Need-compare_rule-requires
 compare-rule-requires c κs =
     let a = c.before.before.before in
-    let e = c.before.enum_told.given.1 in (a.accept.ensures.indexed e, a.accept.ensures.accepted e)
+    let e = c.before.enum_told-1.given.1 in (a.accept.ensures.indexed e, a.accept.ensures.accepted e)
 
-enum-known-r : tie.Need-enum-known-r
+enum-known-r : tie.Need-enum_known-r
 enum-known-r c = search rules
 
-returns : tie.Need-returns
+returns : tie.Need-returns-in-Good
 returns c = search rules
 
-returns-2 : tie.Need-returns-2
+returns-2 : tie.Need-returns-in-Refused
 returns-2 c =
     let a = c.before.before.before in
     let s = a.before.before in
-    refused_match s.args.table.now s.args.configuration.now c.before.r.given.0.0 (sym a.accept.ensures.answer ∙ c.before.r.given.1) s.args.rule
+    refused_match s.args.table.now s.args.configuration.now c.before.r-1.given.0.0 (sym a.accept.ensures.answer ∙ c.before.r-1.given.1) s.args.rule
 
 pub match_rule_spec : {M : Type 1} → statement M
-match_rule_spec =
-    tie.close
-    (tie.spec accept-requires enum_told compare-rule-requires enum-known-r returns returns-2)
+match_rule_spec = tie.close (tie.spec
+    accept-requires
+    enum_told
+    compare-rule-requires
+    enum-known-r
+    returns
+    returns-2)

@@ -6,4 +6,5 @@ returns : tie.Need-returns
 returns c = ordered_is c.args.table.now c.args.position
 
 pub ordered_spec : {M : Type 1} → statement M
-ordered_spec = tie.close (tie.spec returns)
+ordered_spec = tie.close (tie.spec
+    returns)

@@ -20,4 +20,7 @@ returns c =
     rule_count_is c.before.before.args.table.now c.natural.result (via natural_of f c.natural.ensures ∙ ap natural_of c.before.word.ensures)
 
 pub rule_count_spec : {M : Type 1} → statement M
-rule_count_spec = tie.close (tie.spec word-requires natural-requires returns)
+rule_count_spec = tie.close (tie.spec
+    word-requires
+    natural-requires
+    returns)

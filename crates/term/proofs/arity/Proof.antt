@@ -38,42 +38,51 @@ others n h a b c d e f g i =
     (rw (ne_eqb n 0 a, ne_eqb n 1 b, ne_eqb n 2 c, ne_eqb n 6 d, ne_eqb n 7 e, ne_eqb n 14 f, ne_eqb n 15 g, ne_eqb n 17 i) at
     (at (λ m. row_or m (eqb 2 (arity_of m))) (length functions) tt n h))
 
-returns : tie.Need-returns
+returns : tie.Need-returns-in-0
 unfolding arity_of
 returns c = rw c.match.keys1
 
-returns-2 : tie.Need-returns-2
+returns-2 : tie.Need-returns-in-1
 unfolding arity_of
 returns-2 c = rw c.match.keys2
 
-returns-3 : tie.Need-returns-3
+returns-3 : tie.Need-returns-in-2
 unfolding arity_of
 returns-3 c = rw c.match.keys3
 
-returns-4 : tie.Need-returns-4
+returns-4 : tie.Need-returns-in-6
 unfolding arity_of
 returns-4 c = rw c.match.keys4
 
-returns-5 : tie.Need-returns-5
+returns-5 : tie.Need-returns-in-7
 unfolding arity_of
 returns-5 c = rw c.match.keys5
 
-returns-6 : tie.Need-returns-6
+returns-6 : tie.Need-returns-in-14
 unfolding arity_of
 returns-6 c = rw c.match.keys6
 
-returns-7 : tie.Need-returns-7
+returns-7 : tie.Need-returns-in-15
 unfolding arity_of
 returns-7 c = rw c.match.keys7
 
-returns-8 : tie.Need-returns-8
+returns-8 : tie.Need-returns-in-17
 unfolding arity_of
 returns-8 c = rw c.match.keys8
 
-returns-9 : tie.Need-returns-9
+returns-9 : tie.Need-returns-in_default
 returns-9 c =
     let r = c.match.rest in
     others c.before.args.code c.before.requires r.0.0.0.0.0.0.0.1 r.0.0.0.0.0.0.1 r.0.0.0.0.0.1 r.0.0.0.0.1 r.0.0.0.1 r.0.0.1 r.0.1 r.1
 
 pub arity_spec : {M : Type 1} → statement M
-arity_spec = tie.close (tie.spec returns returns-2 returns-3 returns-4 returns-5 returns-6 returns-7 returns-8 returns-9)
+arity_spec = tie.close (tie.spec
+    returns
+    returns-2
+    returns-3
+    returns-4
+    returns-5
+    returns-6
+    returns-7
+    returns-8
+    returns-9)

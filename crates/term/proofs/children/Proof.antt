@@ -19,11 +19,11 @@ use Rattle.term.proofs.children.Statement.{statement}
 use Rattle.term.proofs.children.Tie as tie
 
 -- a call's function code
-module _ (c : tie.Else1) where
+module _ (c : tie.Else-t-ne-CALL) where
   called : (f : ℕ) × CallNode f c.before.args.t c.before.args.d (children_of c.before.args.t c.before.args.d)
   called =
       let s = c.before in
-      call_node s.args.t s.args.d s.requires (same_bits s.args.t (pos call_tag) s.ranges.t (record { sfits = lit< tt }) c.if1.false)
+      call_node s.args.t s.args.d s.requires (same_bits s.args.t (pos call_tag) s.ranges.t (record { sfits = lit< tt }) c.if-t-ne-CALL.false)
 
   number : Natural c.before.args.d 0
   number =
@@ -34,28 +34,32 @@ module _ (c : tie.Else1) where
   same : number.number ≡ called.0
   same = let e = number.is in let f = called.1.datum in cc
 
-plain-children-requires : tie.Need-plain-children-requires
+plain-children-requires : tie.Need-plain_children-requires
 plain-children-requires c κs = search rules
 
-returns : tie.Need-returns
+returns : tie.Need-returns-then-t-ne-CALL
 returns c =
     let e = c.before in
     let s = e.before in
-    c.plain-children.ensures ∙ ap₂ plain_children (to_z-of_z w64 s.args.t s.ranges.t) (to_z-of_z w64 s.args.d s.ranges.d) ∙
-    other_node s.args.t s.args.d s.requires (λ q. e.if1.true (ap (of_z w64) q))
+    c.plain_children.ensures ∙ ap₂ plain_children (to_z-of_z w64 s.args.t s.ranges.t) (to_z-of_z w64 s.args.d s.ranges.d) ∙
+    other_node s.args.t s.args.d s.requires (λ q. e.if-t-ne-CALL.true (ap (of_z w64) q))
 
-cast-arity : tie.Need-overflow-cast-arity
+cast-arity : tie.Need-overflow_cast-d
 cast-arity c = (number c).cast
 
 arity-requires : tie.Need-arity-requires
 arity-requires c κs = rw ((number c).gives, same c) (called c).1.small
 
-returns-2 : tie.Need-returns-2
+returns-2 : tie.Need-returns
 unfolding arity_of
 returns-2 c =
     let u = c.before in
     c.arity.ensures ∙ (ap arity_of ((number u).gives ∙ same u) ∙ sym (called u).1.arity)
 
 pub children_spec : {M : Type 1} → statement M
-children_spec =
-    tie.close (tie.spec plain-children-requires returns cast-arity arity-requires returns-2)
+children_spec = tie.close (tie.spec
+    plain-children-requires
+    returns
+    cast-arity
+    arity-requires
+    returns-2)

@@ -19,109 +19,107 @@ use Rattle.term.proofs.ChildrenLaw.{term_ends}
 use Rattle.term.proofs.expression_end.Statement.{statement}
 use Rattle.term.proofs.expression_end.Tie as tie
 
-abbrev invariant-loop : tie.invariant-loop
+abbrev invariant-loop : tie.invariant-loop-left
 invariant-loop s at i₀ left₀ i left = term_end s at ≡ place_of i (extent any_label (drop i s) left)
 
-abbrev decreases-loop : tie.decreases-loop
+abbrev decreases-loop : tie.decreases-loop-left
 decreases-loop s at i₀ left₀ i left = length s - i
 
 -- the turn at the node that stands at i, by the term that is required
-turn : (c : tie.In-loop invariant-loop decreases-loop) → Turn any_label c.before.before.args.s.now c.before.loop.i c.before.loop.left (c.before.before.args.at + length (encode (single c.before.before.requires.term)))
+turn : (c : tie.In-loop-left invariant-loop decreases-loop) → Turn any_label c.before.before.args.s.now c.before.loop-left.i c.before.loop-left.left (c.before.before.args.at + length (encode (single c.before.before.requires.term)))
 turn c =
     let s = c.before.before.args.s.now in
     let at = c.before.before.args.at in
     let g = c.before.before.requires in
-    let l = c.before.loop in
-    place_turn any_label s l.i l.left (at + length (encode (single g.term))) c.loop-test.true
+    let l = c.before.loop-left in
+    place_turn any_label s l.i l.left (at + length (encode (single g.term))) c.loop-left-test.true
     (sym l.invariant ∙ term_ends s at g.term g.shape g.stands)
 
 -- the two words that the code read are the node's
-module _ (c : tie.After-word2 invariant-loop decreases-loop) where
+module _ (c : tie.After-word-d invariant-loop decreases-loop) where
   abbrev words : List ℤ
   words = c.before.before.before.before.before.args.s.now
 
   abbrev i : ℕ
-  i = c.before.before.before.before.loop.i
+  i = c.before.before.before.before.loop-left.i
 
-  abbrev here : Turn any_label words i c.before.before.before.before.loop.left (c.before.before.before.before.before.args.at + length (encode (single c.before.before.before.before.before.requires.term)))
+  abbrev here : Turn any_label words i c.before.before.before.before.loop-left.left (c.before.before.before.before.before.args.at + length (encode (single c.before.before.before.before.before.requires.term)))
   here = turn c.before.before.before
 
-  tag : to_z w64 (of_z w64 c.before.before.word.result) ≡ get_or words i (pos 0)
-  tag = let f : SFits w64 c.before.before.word.result = search rules in to_z-of_z w64 c.before.before.word.result f ∙ c.before.before.word.ensures
+  tag : to_z w64 (of_z w64 c.before.before.word-t.result) ≡ get_or words i (pos 0)
+  tag = let f : SFits w64 c.before.before.word-t.result = search rules in to_z-of_z w64 c.before.before.word-t.result f ∙ c.before.before.word-t.ensures
 
-  datum : to_z w64 (of_z w64 c.word2.result) ≡ get_or words (i + 1) (pos 0)
-  datum = let f : SFits w64 c.word2.result = search rules in to_z-of_z w64 c.word2.result f ∙ c.word2.ensures
+  datum : to_z w64 (of_z w64 c.word-d.result) ≡ get_or words (i + 1) (pos 0)
+  datum = let f : SFits w64 c.word-d.result = search rules in to_z-of_z w64 c.word-d.result f ∙ c.word-d.ensures
 
-  words_are : children_if any_label (to_z w64 (of_z w64 c.before.before.word.result)) (to_z w64 (of_z w64 c.word2.result)) ≡ some here.count
+  words_are : children_if any_label (to_z w64 (of_z w64 c.before.before.word-t.result)) (to_z w64 (of_z w64 c.word-d.result)) ≡ some here.count
   words_are = ap₂ (children_if any_label) tag datum ∙ here.children
 
-  said : here.count ≡ children_of (to_z w64 (of_z w64 c.before.before.word.result)) (to_z w64 (of_z w64 c.word2.result))
-  said = count_is (children_node any_label (to_z w64 (of_z w64 c.before.before.word.result)) (to_z w64 (of_z w64 c.word2.result)) here.count words_are)
+  said : here.count ≡ children_of (to_z w64 (of_z w64 c.before.before.word-t.result)) (to_z w64 (of_z w64 c.word-d.result))
+  said = count_is (children_node any_label (to_z w64 (of_z w64 c.before.before.word-t.result)) (to_z w64 (of_z w64 c.word-d.result)) here.count words_are)
 
 -- the count that was answered is the node's
 counted : (c : tie.After-children invariant-loop decreases-loop) → (turn c.before.before.before.before).count ≡ c.children.result
 counted c = said c.before ∙ sym c.children.ensures
 
-loop-holds : tie.Need-loop-init invariant-loop decreases-loop
+loop-holds : tie.Need-loop-left-init invariant-loop decreases-loop
 loop-holds c = term_end_is c.args.s.now c.args.at
 
-word-requires : tie.Need-word-requires invariant-loop decreases-loop
+word-requires : tie.Need-word-t-requires invariant-loop decreases-loop
 word-requires c κs = let r = (turn c).room in omega arith
 
 -- a dictionary: the terms left to read end where the one at the start does
-mixed-expression-end-requires : tie.Need-mixed-expression-end-requires invariant-loop decreases-loop
+mixed-expression-end-requires : tie.Need-mixed_expression_end-requires invariant-loop decreases-loop
 mixed-expression-end-requires c κs =
     let u = c.before.before.before in
     let a = u.before.args in
     let g = u.before.requires in
-    record { end = a.at + length (encode (single g.term)); ends = sym u.loop.invariant ∙ term_ends a.s.now a.at g.term g.shape g.stands }
+    record { end = a.at + length (encode (single g.term)); ends = sym u.loop-left.invariant ∙ term_ends a.s.now a.at g.term g.shape g.stands }
 
-returns : tie.Need-returns invariant-loop decreases-loop
+returns : tie.Need-returns-then-t-eq-DICTIONARY invariant-loop decreases-loop
 returns c =
     let u = c.before.before.before.before in
     let a = u.before.args in
-    record { ends = λ t x h. let e = sym c.mixed-expression-end.ensures.is ∙ (sym u.loop.invariant ∙ term_ends a.s.now a.at t x h) in cc }
+    record { ends = λ t x h. let e = sym c.mixed_expression_end.ensures.is ∙ (sym u.loop-left.invariant ∙ term_ends a.s.now a.at t x h) in cc }
 
-add-word : tie.Need-overflow-add-word invariant-loop decreases-loop
+add-word : tie.Need-overflow_add-i invariant-loop decreases-loop
 add-word c = let r = (turn c.before.before).room in omega arith
 
-word-requires-2 : tie.Need-word-requires-2 invariant-loop decreases-loop
+word-requires-2 : tie.Need-word-d-requires invariant-loop decreases-loop
 word-requires-2 c κs = let r = (turn c.before.before).room in omega arith
 
-sub-left : tie.Need-overflow-sub-left invariant-loop decreases-loop
+sub-left : tie.Need-overflow_sub-left invariant-loop decreases-loop
 sub-left c = search rules
 
 children-requires : tie.Need-children-requires invariant-loop decreases-loop
 children-requires c κs = record { count = (here c).count; is = words_are c }
 
-add_left : tie.Need-overflow-add-left invariant-loop decreases-loop
+add_left : tie.Need-overflow_add-left invariant-loop decreases-loop
 add_left c = let e = counted c in let f = (turn c.before.before.before.before).few in omega arith
 
-add-i : tie.Need-overflow-add-i invariant-loop decreases-loop
+add-i : tie.Need-overflow_add-i-in-loop-left invariant-loop decreases-loop
 add-i c = let r = (turn c.before.before.before.before).room in omega arith
 
-loop-less : tie.Need-loop-smaller invariant-loop decreases-loop
+loop-less : tie.Need-loop-left-smaller invariant-loop decreases-loop
 loop-less c = let r = (turn c.before.before.before.before).room in omega arith
 
-loop-again : tie.Need-loop-preserved invariant-loop decreases-loop
+loop-again : tie.Need-loop-left-preserved invariant-loop decreases-loop
 loop-again c =
     let u = c.before.before.before.before.before.before in
     let g = u.requires in
     term_ends u.args.s.now u.args.at g.term g.shape g.stands ∙
     sym (rw (counted c) at (turn c.before.before.before.before).rest)
 
-returns-2 : tie.Need-returns-2 invariant-loop decreases-loop
+returns-2 : tie.Need-returns invariant-loop decreases-loop
 returns-2 c =
     let s = c.before.before.args.s.now in
     let at = c.before.before.args.at in
-    let l = c.before.loop in
-    let z : l.left ≡ 0 = let h = c.loop-test.false in omega arith in
+    let l = c.before.loop-left in
+    let z : l.left ≡ 0 = let h = c.loop-left-test.false in omega arith in
     record { ends = λ t x h. let e = sym (place_done any_label s l.i l.left z) ∙ (sym l.invariant ∙ term_ends s at t x h) in cc }
 
 pub expression_end_spec : {M : Type 1} → statement M
-expression_end_spec =
-    tie.close
-    (tie.spec
+expression_end_spec = tie.close (tie.spec
     invariant-loop
     decreases-loop
     loop-holds

@@ -22,10 +22,10 @@ use Rattle.term.proofs.ExtentLaw.{stands_ends}
 use Rattle.term.proofs.ground_end.Statement.{statement}
 use Rattle.term.proofs.ground_end.Tie as tie
 
-abbrev invariant-loop : tie.invariant-loop
+abbrev invariant-loop : tie.invariant-loop-rest
 invariant-loop s at i₀ rest₀ i rest = ground_terms_end s at 1 ≡ place_of i (extent ground_label (drop i s) rest)
 
-abbrev decreases-loop : tie.decreases-loop
+abbrev decreases-loop : tie.decreases-loop-rest
 decreases-loop s at i₀ rest₀ i rest = length s - i
 
 -- the answer, by any ground term that stands at the start
@@ -33,62 +33,62 @@ ends_at : (s : List ℤ) (at : ℕ) (t : Term) → T (shapely (single t)) → T 
 ends_at s at t x g h = ground_terms_are s at 1 ∙ stands_ends ground_label s at t x g h
 
 -- the turn at the node that stands at i, by the term that is required
-turn : (c : tie.In-loop invariant-loop decreases-loop) → Turn ground_label c.before.before.args.s.now c.before.loop.i c.before.loop.rest (c.before.before.args.at + length (encode (single c.before.before.requires.term)))
+turn : (c : tie.In-loop-rest invariant-loop decreases-loop) → Turn ground_label c.before.before.args.s.now c.before.loop-rest.i c.before.loop-rest.rest (c.before.before.args.at + length (encode (single c.before.before.requires.term)))
 turn c =
     let s = c.before.before.args.s.now in
     let at = c.before.before.args.at in
     let g = c.before.before.requires in
-    let l = c.before.loop in
-    place_turn ground_label s l.i l.rest (at + length (encode (single g.term))) c.loop-test.true
+    let l = c.before.loop-rest in
+    place_turn ground_label s l.i l.rest (at + length (encode (single g.term))) c.loop-rest-test.true
     (sym l.invariant ∙ ends_at s at g.term g.shape g.grounded g.stands)
 
-loop-holds : tie.Need-loop-init invariant-loop decreases-loop
+loop-holds : tie.Need-loop-rest-init invariant-loop decreases-loop
 loop-holds c = ground_terms_are c.args.s.now c.args.at 1
 
-word-requires : tie.Need-word-requires invariant-loop decreases-loop
+word-requires : tie.Need-word-t-requires invariant-loop decreases-loop
 word-requires c κs = let r = (turn c).room in omega arith
 
 -- a dictionary: the terms left to read end where the one at the start does
-mixed-ground-end-requires : tie.Need-mixed-ground-end-requires invariant-loop decreases-loop
+mixed-ground-end-requires : tie.Need-mixed_ground_end-requires invariant-loop decreases-loop
 mixed-ground-end-requires c κs =
     let a = c.before.before.before.before.args in
     let g = c.before.before.before.before.requires in
-    record { end = a.at + length (encode (single g.term)); ends = sym c.before.before.before.loop.invariant ∙ ends_at a.s.now a.at g.term g.shape g.grounded g.stands }
+    record { end = a.at + length (encode (single g.term)); ends = sym c.before.before.before.loop-rest.invariant ∙ ends_at a.s.now a.at g.term g.shape g.grounded g.stands }
 
-returns : tie.Need-returns invariant-loop decreases-loop
+returns : tie.Need-returns-then-t-eq-DICTIONARY invariant-loop decreases-loop
 returns c =
     let a = c.before.before.before.before.before.args in
-    record { ends = λ t x g h. let e = sym c.mixed-ground-end.ensures.is ∙ (sym c.before.before.before.before.loop.invariant ∙ ends_at a.s.now a.at t x g h) in cc }
+    record { ends = λ t x g h. let e = sym c.mixed_ground_end.ensures.is ∙ (sym c.before.before.before.before.loop-rest.invariant ∙ ends_at a.s.now a.at t x g h) in cc }
 
 -- any other node: the count that the code read is the node's
-counted : (c : tie.After-tag-children invariant-loop decreases-loop) → (turn c.before.before.before).count ≡ c.tag-children.result
+counted : (c : tie.After-tag_children invariant-loop decreases-loop) → (turn c.before.before.before).count ≡ c.tag_children.result
 counted c =
     let s = c.before.before.before.before.before.args.s.now in
-    let i = c.before.before.before.before.loop.i in
+    let i = c.before.before.before.before.loop-rest.i in
     let w = c.before.before.word in
     let t = turn c.before.before.before in
     let x = get_or s i (pos 0) in
     let y = get_or s (i + 1) (pos 0) in
-    let f : SFits w64 c.before.before.word.result = search rules in
+    let f : SFits w64 c.before.before.word-t.result = search rules in
     ground_count x y t.count (children_node ground_label x y t.count t.children) ∙
-    (sym (plain_by_tag x y (λ e. c.before.if1.false (ap (of_z w64) (w.ensures ∙ e)))) ∙ sym (c.tag-children.ensures ∙ ap tag_children (to_z-of_z w64 w.result f ∙ w.ensures)))
+    (sym (plain_by_tag x y (λ e. c.before.if-t-eq-DICTIONARY.false (ap (of_z w64) (w.ensures ∙ e)))) ∙ sym (c.tag_children.ensures ∙ ap tag_children (to_z-of_z w64 w.result f ∙ w.ensures)))
 
-sub-rest : tie.Need-overflow-sub-rest invariant-loop decreases-loop
+sub-rest : tie.Need-overflow_sub-rest invariant-loop decreases-loop
 sub-rest c = search rules
 
-tag-children-requires : tie.Need-tag-children-requires invariant-loop decreases-loop
+tag-children-requires : tie.Need-tag_children-requires invariant-loop decreases-loop
 tag-children-requires c κs = tt
 
-add-rest : tie.Need-overflow-add-rest invariant-loop decreases-loop
+add-rest : tie.Need-overflow_add-rest invariant-loop decreases-loop
 add-rest c = let e = counted c in let f = (turn c.before.before.before).few in omega arith
 
-add-i : tie.Need-overflow-add-i invariant-loop decreases-loop
+add-i : tie.Need-overflow_add-i invariant-loop decreases-loop
 add-i c = let r = (turn c.before.before.before).room in omega arith
 
-loop-less : tie.Need-loop-smaller invariant-loop decreases-loop
+loop-less : tie.Need-loop-rest-smaller invariant-loop decreases-loop
 loop-less c = let r = (turn c.before.before.before).room in omega arith
 
-loop-again : tie.Need-loop-preserved invariant-loop decreases-loop
+loop-again : tie.Need-loop-rest-preserved invariant-loop decreases-loop
 loop-again c =
     let s = c.before.before.before.before.before.args.s.now in
     let at = c.before.before.before.before.before.args.at in
@@ -96,18 +96,16 @@ loop-again c =
     ends_at s at g.term g.shape g.grounded g.stands ∙
     sym (rw (counted c) at (turn c.before.before.before).rest)
 
-returns-2 : tie.Need-returns-2 invariant-loop decreases-loop
+returns-2 : tie.Need-returns invariant-loop decreases-loop
 returns-2 c =
     let s = c.before.before.args.s.now in
     let at = c.before.before.args.at in
-    let l = c.before.loop in
-    let z : l.rest ≡ 0 = let h = c.loop-test.false in omega arith in
+    let l = c.before.loop-rest in
+    let z : l.rest ≡ 0 = let h = c.loop-rest-test.false in omega arith in
     record { ends = λ t x g h. let e = sym (place_done ground_label s l.i l.rest z) ∙ (sym l.invariant ∙ ends_at s at t x g h) in cc }
 
 pub ground_end_spec : {M : Type 1} → statement M
-ground_end_spec =
-    tie.close
-    (tie.spec
+ground_end_spec = tie.close (tie.spec
     invariant-loop
     decreases-loop
     loop-holds

@@ -23,9 +23,9 @@ unfolding plain_children
 twice n t d e f = sym (ap₂ plain_children e f)
 
 -- a dictionary's entry count
-module _ (c : tie.Then1) where
+module _ (c : tie.Then-t-eq-DICTIONARY) where
   tag : c.before.args.t ≡ pos dictionary_tag
-  tag = same_bits c.before.args.t (pos dictionary_tag) c.before.ranges.t (record { sfits = lit< tt }) c.if1.true
+  tag = same_bits c.before.args.t (pos dictionary_tag) c.before.ranges.t (record { sfits = lit< tt }) c.if-t-eq-DICTIONARY.true
 
   datum : (n : ℕ) × (c.before.args.d ≡ pos n) × (n ≤ max_entries)
   datum = dictionary_words c.before.args.t c.before.args.d c.before.requires tag
@@ -39,24 +39,28 @@ module _ (c : tie.Then1) where
   gives : nat_abs (to_z w64 (of_z w64 c.before.args.d)) ≡ datum.0
   gives = let e = number.is in let f = datum.1 in let g : number.number ≡ datum.0 = cc in number.gives ∙ g
 
-cast-result : tie.Need-overflow-cast-result
+cast-result : tie.Need-overflow_cast-result
 cast-result c = (number c).cast
 
-mul-result : tie.Need-overflow-mul-result
+mul-result : tie.Need-overflow_mul-result
 mul-result c = let e = gives c in let h = (datum c).2 in omega arith
 
-returns : tie.Need-returns
+returns : tie.Need-returns-then-t-eq-DICTIONARY
 returns c = rw (gives c) (twice (datum c).0 c.before.args.t c.before.args.d (tag c) (datum c).1)
 
-tag-children-requires : tie.Need-tag-children-requires
+tag-children-requires : tie.Need-tag_children-requires
 tag-children-requires c κs = search rules
 
-returns-2 : tie.Need-returns-2
+returns-2 : tie.Need-returns
 returns-2 c =
     let a = c.before.before.args in
     let f = c.before.before.ranges.t in
-    c.tag-children.ensures ∙ (ap tag_children (to_z-of_z w64 a.t f) ∙ plain_by_tag a.t a.d (λ e. c.before.if1.false (ap (of_z w64) e)))
+    c.tag_children.ensures ∙ (ap tag_children (to_z-of_z w64 a.t f) ∙ plain_by_tag a.t a.d (λ e. c.before.if-t-eq-DICTIONARY.false (ap (of_z w64) e)))
 
 pub plain_children_spec : {M : Type 1} → statement M
-plain_children_spec =
-    tie.close (tie.spec cast-result mul-result returns tag-children-requires returns-2)
+plain_children_spec = tie.close (tie.spec
+    cast-result
+    mul-result
+    returns
+    tag-children-requires
+    returns-2)

@@ -8,72 +8,70 @@ use Rattle.value.proofs.part.Statement.{statement}
 use Rattle.value.proofs.part.Tie as tie
 
 -- the part lies within its slice
-in_table : (c : tie.After-known-told) → (c.before.v.given.0.0 ≤ c.before.v.given.0.1.0) × (c.before.v.given.0.1.0 ≤ length c.before.before.before.args.table.now)
+in_table : (c : tie.In-Table) → (c.before.v-1.given.0.0 ≤ c.before.v-1.given.0.1.0) × (c.before.v-1.given.0.1.0 ≤ length c.before.before.before.args.table.now)
 unfolding Within
-in_table c = subst (Within c.before.before.before.args.table.now c.before.before.before.args.configuration.now) c.before.v.given.1 c.before.before.before.requires
+in_table c = subst (Within c.before.before.before.args.table.now c.before.before.before.args.configuration.now) c.before.v-1.given.1 c.before.before.before.requires
 
-in_configuration : (c : tie.After-known-told2) → (c.before.v2.given.0.0 ≤ c.before.v2.given.0.1.0) × (c.before.v2.given.0.1.0 ≤ length c.before.before.before.args.configuration.now)
+in_configuration : (c : tie.In-Configuration) → (c.before.v-in-Configuration-1.given.0.0 ≤ c.before.v-in-Configuration-1.given.0.1.0) × (c.before.v-in-Configuration-1.given.0.1.0 ≤ length c.before.before.before.args.configuration.now)
 unfolding Within
-in_configuration c = subst (Within c.before.before.before.args.table.now c.before.before.before.args.configuration.now) c.before.v2.given.1 c.before.before.before.requires
+in_configuration c = subst (Within c.before.before.before.args.table.now c.before.before.before.args.configuration.now) c.before.v-in-Configuration-1.given.1 c.before.before.before.requires
 
-enum-known-v : tie.Need-enum-known-v
+enum-known-v : tie.Need-enum_known-v
 enum-known-v c = search rules
 
-mul-result : tie.Need-overflow-mul-result
+mul-result : tie.Need-offset_bounds-table-start
 mul-result c = let h = in_table c in omega arith
 
-sub-result : tie.Need-overflow-sub-result
+sub-result : tie.Need-slice_bounds-result-count
 sub-result c = let h = in_table c in omega arith
 
-part-result-start : tie.Need-slice-bounds-result-start
+part-result-start : tie.Need-slice_bounds-result-start
 part-result-start c = (in_table c).0
 
-part-result-end : tie.Need-slice-bounds-result-end
+part-result-end : tie.Need-slice_bounds-result-end
 part-result-end c = (in_table c).1
 
-enum-known-v-2 : tie.Need-enum-known-v-2
+enum-known-v-2 : tie.Need-enum_known-v-in-Configuration-1
 enum-known-v-2 c = search rules
 
-mul-result-2 : tie.Need-overflow-mul-result-2
+mul-result-2 : tie.Need-offset_bounds-configuration-start
 mul-result-2 c = let h = in_configuration c in omega arith
 
-sub-result-2 : tie.Need-overflow-sub-result-2
+sub-result-2 : tie.Need-slice_bounds-result-count-in-Configuration
 sub-result-2 c = let h = in_configuration c in omega arith
 
-part-result-start-2 : tie.Need-slice-bounds-result-start-2
+part-result-start-2 : tie.Need-slice_bounds-result-start-in-Configuration
 part-result-start-2 c = (in_configuration c).0
 
-part-result-end-2 : tie.Need-slice-bounds-result-end-2
+part-result-end-2 : tie.Need-slice_bounds-result-end-in-Configuration
 part-result-end-2 c = (in_configuration c).1
 
-enum_told : tie.Need-enum-told
+enum_told : tie.Need-enum_told-1
 enum_told c = search rules
 
-sub-result-3 : tie.Need-overflow-sub-result-3
+sub-result-3 : tie.Need-slice_bounds-result-count-in-Computed
 sub-result-3 c = search rules
 
-part-result-start-3 : tie.Need-slice-bounds-result-start-3
+part-result-start-3 : tie.Need-slice_bounds-result-start-in-Computed
 part-result-start-3 c = search rules
 
-part-result-end-3 : tie.Need-slice-bounds-result-end-3
+part-result-end-3 : tie.Need-slice_bounds-result-end-in-Computed
 part-result-end-3 c = search rules
 
-returns : tie.Need-returns
+returns : tie.Need-returns-in-Table
 unfolding part_words
-returns c = rw c.before.before.v.given.1
+returns c = rw c.before.before.v-1.given.1
 
-returns-2 : tie.Need-returns-2
+returns-2 : tie.Need-returns-in-Configuration
 unfolding part_words
-returns-2 c = rw c.before.before.v2.given.1
+returns-2 c = rw c.before.before.v-in-Configuration-1.given.1
 
-returns-3 : tie.Need-returns-3
+returns-3 : tie.Need-returns-in-Computed
 unfolding part_words
-returns-3 c = rw c.before.enum_told.given.1
+returns-3 c = rw c.before.enum_told-1.given.1
 
 pub part_spec : {M : Type 1} → statement M
-part_spec =
-    tie.close
-    (tie.spec
+part_spec = tie.close (tie.spec
     enum-known-v
     mul-result
     sub-result

@@ -17,35 +17,35 @@ use Rattle.value.proofs.put.Statement.{statement}
 use Rattle.value.proofs.put.Tie as tie
 
 -- there is room for two words; the part has the value's words
-room : (c : tie.After-known-told) → c.before.before.before.args.at + 2 ≤ length c.before.before.before.args.out.now
+room : (c : tie.In-Computed) → c.before.before.before.args.at + 2 ≤ length c.before.before.before.args.out.now
 unfolding size_of
-room c = subst (λ (v : Value). c.before.before.before.args.at + size_of v ≤ length c.before.before.before.args.out.now) c.before.v.given.1 c.before.before.before.requires.1
+room c = subst (λ (v : Value). c.before.before.before.args.at + size_of v ≤ length c.before.before.before.args.out.now) c.before.v-1.given.1 c.before.before.before.requires.1
 
-the_words : (c : tie.After-part) → c.part.result.now ≡ value_words c.before.before.args.table.now c.before.before.args.configuration.now c.before.before.args.v
-the_words c = c.part.ensures ∙ part_is _ _ c.before.before.args.v c.before.match.keys2
+the_words : (c : tie.After-part-words) → c.part-words.result.now ≡ value_words c.before.before.args.table.now c.before.before.args.configuration.now c.before.before.args.v
+the_words c = c.part-words.ensures ∙ part_is _ _ c.before.before.args.v c.before.match.keys2
 
-enum-known-v : tie.Need-enum-known-v
+enum-known-v : tie.Need-enum_known-v
 enum-known-v c = search rules
 
-mul-tag : tie.Need-overflow-mul-tag
+mul-tag : tie.Need-offset_bounds-out-at
 mul-tag c = let h = room c in omega arith
 
-slice-set-from-tag : tie.Need-slice-set-from-tag
+slice-set-from-tag : tie.Need-bounds-out-at
 slice-set-from-tag c = let h = room c in omega arith
 
-add-datum : tie.Need-overflow-add-datum
+add-datum : tie.Need-overflow_add-datum
 add-datum c = let h = room c in omega arith
 
-mul-datum : tie.Need-overflow-mul-datum
+mul-datum : tie.Need-offset_bounds-out-at-in-Computed
 mul-datum c = let h = room c in omega arith
 
-slice-set-from-datum : tie.Need-slice-set-from-datum
+slice-set-from-datum : tie.Need-bounds-out-at-in-Computed
 slice-set-from-datum c = let h = room c in simp length-set (omega arith)
 
-add-result : tie.Need-overflow-add-result
+add-result : tie.Need-overflow_add-result
 add-result c = let h = room c in omega arith
 
-part-requires : tie.Need-part-requires
+part-requires : tie.Need-part-words-requires
 part-requires c κs = c.before.requires.0
 
 copy-requires : tie.Need-copy-requires
@@ -55,23 +55,23 @@ copy-requires c κs =
     let k = ap length (the_words c.before) ∙ size_is _ _ s.args.v s.requires.0 in
     omega arith
 
-add-result-2 : tie.Need-overflow-add-result-2
+add-result-2 : tie.Need-overflow_add-result-in_default
 add-result-2 c = search rules
 
-same_length : tie.Need-same-length
+same_length : tie.Need-shape_of-out-in-Computed
 same_length c = search rules
 
-returns : tie.Need-returns
+returns : tie.Need-returns-in-Computed
 unfolding value_words
 returns c =
-    let f : SFits w64 c.before.v.given.0.0 = search rules in
-    let g : SFits w64 c.before.v.given.0.1.0 = search rules in
-    rw (c.before.v.given.1, to_z-of_z f, to_z-of_z g) (record { leaves = written_two _ _ _ _ (room c); next = refl })
+    let f : SFits w64 c.before.v-1.given.0.0 = search rules in
+    let g : SFits w64 c.before.v-1.given.0.1.0 = search rules in
+    rw (c.before.v-1.given.1, to_z-of_z f, to_z-of_z g) (record { leaves = written_two _ _ _ _ (room c); next = refl })
 
-same-length-2 : tie.Need-same-length-2
+same-length-2 : tie.Need-shape_of-out-in_default
 same-length-2 c = search rules
 
-returns-2 : tie.Need-returns-2
+returns-2 : tie.Need-returns-in_default
 returns-2 c =
     let s = c.before.before.before.before.before in
     let w = the_words c.before.before.before in
@@ -81,9 +81,7 @@ returns-2 c =
     }
 
 pub put_spec : {M : Type 1} → statement M
-put_spec =
-    tie.close
-    (tie.spec
+put_spec = tie.close (tie.spec
     enum-known-v
     mul-tag
     slice-set-from-tag

@@ -49,59 +49,57 @@ module _ (w₀ : List ℤ) (from to count : ℕ) (w : List ℤ) (i : ℕ) (k : C
         long = length-set w (to + i) (get_or w (from + i) (pos 0)) ∙ k.long;
       }
 
-abbrev invariant-loop : tie.invariant-loop
+abbrev invariant-loop : tie.invariant-loop-i
 invariant-loop words₀ from to count i₀ words i = Copied words₀ from to count words i
 
-abbrev decreases-loop : tie.decreases-loop
+abbrev decreases-loop : tie.decreases-loop-i
 decreases-loop words₀ from to count i₀ words i = count - i
 
-loop-holds : tie.Need-loop-init invariant-loop decreases-loop
+loop-holds : tie.Need-loop-i-init invariant-loop decreases-loop
 loop-holds c = record { up = omega arith; apart = c.requires.0; fits = c.requires.1; is = paste-zero c.args.words.now c.args.to (take c.args.count (drop c.args.from c.args.words.now)); long = refl }
 
-add_words : tie.Need-overflow-add-words invariant-loop decreases-loop
+add_words : tie.Need-overflow_add-words invariant-loop decreases-loop
 add_words c = omega arith
 
-mul_words : tie.Need-overflow-mul-words invariant-loop decreases-loop
+mul_words : tie.Need-offset_bounds-words-from invariant-loop decreases-loop
 mul_words c = search rules
 
-slice-copy-out-words : tie.Need-slice-copy-out-words invariant-loop decreases-loop
+slice-copy-out-words : tie.Need-slice_copy_out-words invariant-loop decreases-loop
 slice-copy-out-words c = omega arith
 
-add-t11 : tie.Need-overflow-add-t11 invariant-loop decreases-loop
+add-t11 : tie.Need-overflow_add-to invariant-loop decreases-loop
 add-t11 c = omega arith
 
-mul-t12 : tie.Need-overflow-mul-t12 invariant-loop decreases-loop
+mul-t12 : tie.Need-offset_bounds-words-to invariant-loop decreases-loop
 mul-t12 c = search rules
 
-slice-set-from-words : tie.Need-slice-set-from-words invariant-loop decreases-loop
+slice-set-from-words : tie.Need-bounds-words-to invariant-loop decreases-loop
 slice-set-from-words c = omega arith
 
-add-i : tie.Need-overflow-add-i invariant-loop decreases-loop
+add-i : tie.Need-overflow_add-i invariant-loop decreases-loop
 add-i c = omega arith
 
-loop-less : tie.Need-loop-smaller invariant-loop decreases-loop
+loop-less : tie.Need-loop-i-smaller invariant-loop decreases-loop
 loop-less c = omega arith
 
-loop-again : tie.Need-loop-preserved invariant-loop decreases-loop
+loop-again : tie.Need-loop-i-preserved invariant-loop decreases-loop
 loop-again c =
     let l = c.before.before in
     let a = l.before.args in
-    let e : to_z w64 (of_z w64 (get_or l.loop.words (a.from + l.loop.i) (pos 0))) ≡ get_or l.loop.words (a.from + l.loop.i) (pos 0) = to_z-of_z (sfits_of c.words.given) in
-    rw e (more a.words.now a.from a.to a.count l.loop.words l.loop.i l.loop.invariant c.before.loop-test.true)
+    let e : to_z w64 (of_z w64 (get_or l.loop-i.words (a.from + l.loop-i.i) (pos 0))) ≡ get_or l.loop-i.words (a.from + l.loop-i.i) (pos 0) = to_z-of_z {w = w64} (sfits_of c.words-1.given) in
+    rw e (more a.words.now a.from a.to a.count l.loop-i.words l.loop-i.i l.loop-i.invariant c.before.loop-i-test.true)
 
-same_length : tie.Need-same-length invariant-loop decreases-loop
-same_length c = c.before.loop.invariant.long
+same_length : tie.Need-shape_of-words invariant-loop decreases-loop
+same_length c = c.before.loop-i.invariant.long
 
 returns : tie.Need-returns invariant-loop decreases-loop
 returns c =
-    let v = c.before.loop.invariant in
-    let e : c.before.loop.i ≡ c.before.before.args.count = omega (arith, v.up, c.loop-test.false) in
+    let v = c.before.loop-i.invariant in
+    let e : c.before.loop-i.i ≡ c.before.before.args.count = omega (arith, v.up, c.loop-i-test.false) in
     v.is ∙ ap (paste c.before.before.args.words.now c.before.before.args.to (take c.before.before.args.count (drop c.before.before.args.from c.before.before.args.words.now))) e
 
 pub copy_up_spec : {M : Type 1} → statement M
-copy_up_spec =
-    tie.close
-    (tie.spec
+copy_up_spec = tie.close (tie.spec
     invariant-loop
     decreases-loop
     loop-holds

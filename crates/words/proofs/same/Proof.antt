@@ -19,60 +19,58 @@ use Rattle.words.proofs.same.Tie as tie
 next_le : (i j : ℕ) → j < i + 1 → j ≤ i
 next_le i j h = omega arith
 
-abbrev invariant-loop : tie.invariant-loop
+abbrev invariant-loop : tie.invariant-loop-i
 invariant-loop a b i₀ i = (i ≤ length a) × (length a ≡ length b) × ((j : ℕ) → j < i → get_or a j (pos 0) ≡ get_or b j (pos 0))
 
-abbrev decreases-loop : tie.decreases-loop
+abbrev decreases-loop : tie.decreases-loop-i
 decreases-loop a b i₀ i = length a - i
 
-returns : tie.Need-returns invariant-loop decreases-loop
-returns c = denied (λ e. c.if1.true (ap length e))
+returns : tie.Need-returns-then-a-b invariant-loop decreases-loop
+returns c = denied (λ e. c.if-a-b.true (ap length e))
 
-loop-holds : tie.Need-loop-init invariant-loop decreases-loop
-loop-holds c = (omega arith, c.if1.false, λ j h. absurd (let f : ⊥ = omega arith in f))
+loop-holds : tie.Need-loop-i-init invariant-loop decreases-loop
+loop-holds c = (omega arith, c.if-a-b.false, λ j h. absurd (let f : ⊥ = omega arith in f))
 
-mul-if2 : tie.Need-overflow-mul-if2 invariant-loop decreases-loop
+mul-if2 : tie.Need-offset_bounds-a-i invariant-loop decreases-loop
 mul-if2 c = search rules
 
-shared-slice-copy-out-if2 : tie.Need-shared-slice-copy-out-if2 invariant-loop decreases-loop
+shared-slice-copy-out-if2 : tie.Need-bounds-a-i invariant-loop decreases-loop
 shared-slice-copy-out-if2 c = search rules
 
-mul-if2-2 : tie.Need-overflow-mul-if2-2 invariant-loop decreases-loop
+mul-if2-2 : tie.Need-offset_bounds-b-i invariant-loop decreases-loop
 mul-if2-2 c = search rules
 
-shared-slice-copy-out-if2-2 : tie.Need-shared-slice-copy-out-if2-2 invariant-loop decreases-loop
+shared-slice-copy-out-if2-2 : tie.Need-bounds-b-i invariant-loop decreases-loop
 shared-slice-copy-out-if2-2 c = search rules
 
-returns-2 : tie.Need-returns-2 invariant-loop decreases-loop
+returns-2 : tie.Need-returns-then-a-i invariant-loop decreases-loop
 returns-2 c =
-    let l = c.before.before.before.before.loop in
-    denied (λ e. c.if2.true (ap (λ (x : List ℤ). of_z w64 (get_or x l.i (pos 0))) e))
+    let l = c.before.before.before.before.loop-i in
+    denied (λ e. c.if-a-i.true (ap (λ (x : List ℤ). of_z w64 (get_or x l.i (pos 0))) e))
 
-add-i : tie.Need-overflow-add-i invariant-loop decreases-loop
+add-i : tie.Need-overflow_add-i invariant-loop decreases-loop
 add-i c = omega arith
 
-loop-less : tie.Need-loop-smaller invariant-loop decreases-loop
+loop-less : tie.Need-loop-i-smaller invariant-loop decreases-loop
 loop-less c = omega arith
 
-loop-again : tie.Need-loop-preserved invariant-loop decreases-loop
+loop-again : tie.Need-loop-i-preserved invariant-loop decreases-loop
 loop-again c =
-    let l = c.before.before.before.before.loop in
+    let l = c.before.before.before.before.loop-i in
     let a = c.before.before.before.before.before.before.args.a.now in
     let b = c.before.before.before.before.before.before.args.b.now in
-    let f : SFits w64 (get_or a l.i (pos 0)) = sfits_of c.before.before.if22.given in
-    let g : SFits w64 (get_or b l.i (pos 0)) = sfits_of c.before.if23.given in
-    let e : get_or a l.i (pos 0) ≡ get_or b l.i (pos 0) = sym (to_z-of_z f) ∙ (ap (to_z w64) c.if2.false ∙ to_z-of_z g) in
+    let f : SFits w64 (get_or a l.i (pos 0)) = sfits_of c.before.before.t10-1.given in
+    let g : SFits w64 (get_or b l.i (pos 0)) = sfits_of c.before.t13-1.given in
+    let e : get_or a l.i (pos 0) ≡ get_or b l.i (pos 0) = sym (to_z-of_z f) ∙ (ap (to_z w64) c.if-a-i.false ∙ to_z-of_z g) in
     (omega arith, l.invariant.1, λ j h. ⊎_elim (λ q. rw q e) (λ q. l.invariant.2 j (omega arith)) (eq-or-lt_of_le (next_le l.i j h)))
 
-returns-3 : tie.Need-returns-3 invariant-loop decreases-loop
+returns-3 : tie.Need-returns invariant-loop decreases-loop
 returns-3 c =
-    let v = c.before.loop.invariant in
+    let v = c.before.loop-i.invariant in
     decided (ext_get_or (pos 0) c.before.before.before.args.a.now c.before.before.before.args.b.now v.1 (λ j h. v.2 j (omega arith)))
 
 pub same_spec : {M : Type 1} → statement M
-same_spec =
-    tie.close
-    (tie.spec
+same_spec = tie.close (tie.spec
     invariant-loop
     decreases-loop
     returns

@@ -8,43 +8,41 @@ use borrow.Author.Rules.{rules}
 use Rattle.decimal.proofs.line.as_word.Statement.{statement}
 use Rattle.decimal.proofs.line.as_word.Tie as tie
 
-enum-known-number : tie.Need-enum-known-number
+enum-known-number : tie.Need-enum_known-number
 enum-known-number c = search rules
 
-returns : tie.Need-returns
-returns c = word_large c.before.before.number.given.0.0 _ (omega (arith, c.if1.true)) ∙ sym (ap (λ (n : Number). word_answer (end_of n) (item_of word_of n)) c.before.before.number.given.1)
+returns : tie.Need-returns-then-value-gt9223372036854775807
+returns c = word_large c.before.before.number-1.given.0.0 _ (omega (arith, c.if-value-gt9223372036854775807.true)) ∙ sym (ap (λ (n : Number). word_answer (end_of n) (item_of word_of n)) c.before.before.number-1.given.1)
 
-cast-t8 : tie.Need-overflow-cast-t8
+cast-t8 : tie.Need-overflow_cast-result
 cast-t8 c = search rules
 
-enum-known-number-2 : tie.Need-enum-known-number-2
+enum-known-number-2 : tie.Need-enum_known-number-in-Negative-1
 enum-known-number-2 c = search rules
 
-returns-2 : tie.Need-returns-2
-returns-2 c = word_low c.before.before.number2.given.0.0 _ (omega (arith, c.if2.true)) ∙ sym (ap (λ (n : Number). word_answer (end_of n) (item_of word_of n)) c.before.before.number2.given.1)
+returns-2 : tie.Need-returns-then-below-gt9223372036854775807
+returns-2 c = word_low c.before.before.number-in-Negative-1.given.0.0 _ (omega (arith, c.if-below-gt9223372036854775807.true)) ∙ sym (ap (λ (n : Number). word_answer (end_of n) (item_of word_of n)) c.before.before.number-in-Negative-1.given.1)
 
-cast-t10 : tie.Need-overflow-cast-t10
+cast-t10 : tie.Need-overflow_cast-result-in-Negative
 cast-t10 c = search rules
 
-sub-t11 : tie.Need-overflow-sub-t11
-sub-t11 c = word_fits c.before.before.number2.given.0.0 (omega (arith, c.if2.false))
+sub-t11 : tie.Need-overflow_sub-result
+sub-t11 c = word_fits c.before.before.number-in-Negative-1.given.0.0 (omega (arith, c.if-below-gt9223372036854775807.false))
 
-enum_told : tie.Need-enum-told
+enum_told : tie.Need-enum_told-1
 enum_told c = search rules
 
-returns-3 : tie.Need-returns-3
-returns-3 c = word_natural c.before.before.number.given.0.0 _ (omega (arith, c.if1.false)) ∙ sym (ap (λ (n : Number). word_answer (end_of n) (item_of word_of n)) c.before.before.number.given.1)
+returns-3 : tie.Need-returns-else-value-gt9223372036854775807
+returns-3 c = word_natural c.before.before.number-1.given.0.0 _ (omega (arith, c.if-value-gt9223372036854775807.false)) ∙ sym (ap (λ (n : Number). word_answer (end_of n) (item_of word_of n)) c.before.before.number-1.given.1)
 
-returns-4 : tie.Need-returns-4
-returns-4 c = word_negative c.before.before.number2.given.0.0 _ (omega (arith, c.if2.false)) ∙ sym (ap (λ (n : Number). word_answer (end_of n) (item_of word_of n)) c.before.before.number2.given.1)
+returns-4 : tie.Need-returns-else-below-gt9223372036854775807
+returns-4 c = word_negative c.before.before.number-in-Negative-1.given.0.0 _ (omega (arith, c.if-below-gt9223372036854775807.false)) ∙ sym (ap (λ (n : Number). word_answer (end_of n) (item_of word_of n)) c.before.before.number-in-Negative-1.given.1)
 
-returns-5 : tie.Need-returns-5
+returns-5 : tie.Need-returns-in-Bad
 returns-5 c = search rules
 
 pub as_word_spec : {M : Type 1} → statement M
-as_word_spec =
-    tie.close
-    (tie.spec
+as_word_spec = tie.close (tie.spec
     enum-known-number
     returns
     cast-t8

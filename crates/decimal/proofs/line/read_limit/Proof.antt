@@ -4,34 +4,32 @@ use borrow.Author.Rules.{rules}
 use Rattle.decimal.proofs.line.read_limit.Statement.{statement}
 use Rattle.decimal.proofs.line.read_limit.Tie as tie
 
-next-number-requires : tie.Need-next-number-requires
+next-number-requires : tie.Need-next_number-requires
 next-number-requires c κs = search rules
 
-enum-known-value : tie.Need-enum-known-value
+enum-known-value : tie.Need-enum_known-value
 enum-known-value c = search rules
 
-returns : tie.Need-returns
-returns c = limit_whole c.before.before.before.before.before.before.args.line.now _ c.before.before.before.before.next-number.ensures.answer _ _ c.before.before.value.given.1 c.if1.true
+returns : tie.Need-returns-then-end-line
+returns c = limit_whole c.before.before.before.before.before.before.args.line.now _ c.before.before.before.before.next_number.ensures.answer _ _ c.before.before.value-1.given.1 c.if-end-line.true
 
-enum_told : tie.Need-enum-told
+enum_told : tie.Need-enum_told-1
 enum_told c = search rules
 
-enum-told-2 : tie.Need-enum-told-2
+enum-told-2 : tie.Need-enum_told-in-Bad
 enum-told-2 c = search rules
 
-returns-2 : tie.Need-returns-2
-returns-2 c = limit_more c.before.before.before.before.before.before.args.line.now _ c.before.before.before.before.next-number.ensures.answer _ _ c.before.before.value.given.1 c.if1.false
+returns-2 : tie.Need-returns-else-end-line
+returns-2 c = limit_more c.before.before.before.before.before.before.args.line.now _ c.before.before.before.before.next_number.ensures.answer _ _ c.before.before.value-1.given.1 c.if-end-line.false
 
-returns-3 : tie.Need-returns-3
-returns-3 c = limit_negative c.before.before.before.before.args.line.now _ c.before.before.next-number.ensures.answer _ _ c.enum_told.given.1
+returns-3 : tie.Need-returns-in-Negative
+returns-3 c = limit_negative c.before.before.before.before.args.line.now _ c.before.before.next_number.ensures.answer _ _ c.enum_told-1.given.1
 
-returns-4 : tie.Need-returns-4
-returns-4 c = limit_bad c.before.before.before.before.args.line.now _ c.before.before.next-number.ensures.answer c.enum-told2.given.1
+returns-4 : tie.Need-returns-in-Bad
+returns-4 c = limit_bad c.before.before.before.before.args.line.now _ c.before.before.next_number.ensures.answer c.enum_told-in-Bad-1.given.1
 
 pub read_limit_spec : {M : Type 1} → statement M
-read_limit_spec =
-    tie.close
-    (tie.spec
+read_limit_spec = tie.close (tie.spec
     next-number-requires
     enum-known-value
     returns

@@ -10,64 +10,62 @@ use Rattle.decimal.proofs.FieldsTurn.{words_fault, words_end, words_go}
 use Rattle.decimal.proofs.line.read_words.Statement.{statement}
 use Rattle.decimal.proofs.line.read_words.Tie as tie
 
-abbrev invariant-loop : tie.invariant-loop
+abbrev invariant-loop : tie.invariant-loop-count
 invariant-loop line out₀ at₀ count₀ out at count = Going word_of line out₀ out at count
 
-abbrev decreases-loop : tie.decreases-loop
+abbrev decreases-loop : tie.decreases-loop-count
 decreases-loop line out₀ at₀ count₀ out at count = length out - count
 
-loop-holds : tie.Need-loop-init invariant-loop decreases-loop
+loop-holds : tie.Need-loop-count-init invariant-loop decreases-loop
 loop-holds c = begins word_of c.before.args.line.now c.before.args.out.now
 
-word-at-requires : tie.Need-word-at-requires invariant-loop decreases-loop
+word-at-requires : tie.Need-word_at-requires invariant-loop decreases-loop
 word-at-requires c κs = tt
 
-enum-known-value : tie.Need-enum-known-value invariant-loop decreases-loop
+enum-known-value : tie.Need-enum_known-value invariant-loop decreases-loop
 enum-known-value c = search rules
 
-enum_told : tie.Need-enum-told invariant-loop decreases-loop
+enum_told : tie.Need-enum_told-1 invariant-loop decreases-loop
 enum_told c = search rules
 
-same_length : tie.Need-same-length invariant-loop decreases-loop
-same_length c = c.before.before.before.before.loop.invariant.same
+same_length : tie.Need-shape_of-out-in_default invariant-loop decreases-loop
+same_length c = c.before.before.before.before.loop-count.invariant.same
 
-returns : tie.Need-returns invariant-loop decreases-loop
-returns c = words_fault c.before.before.before.before.before.before.args.line.now c.before.before.before.before.before.before.args.out.now c.before.before.before.before.loop.out c.before.before.before.before.loop.at c.before.before.before.before.loop.count c.before.before.before.before.loop.invariant _ c.before.before.word_at.ensures c.enum_told.given.1
+returns : tie.Need-returns-in_default invariant-loop decreases-loop
+returns c = words_fault c.before.before.before.before.before.before.args.line.now c.before.before.before.before.before.before.args.out.now c.before.before.before.before.loop-count.out c.before.before.before.before.loop-count.at c.before.before.before.before.loop-count.count c.before.before.before.before.loop-count.invariant _ c.before.before.word_at.ensures c.enum_told-1.given.1
 
-mul-value : tie.Need-overflow-mul-value invariant-loop decreases-loop
+mul-value : tie.Need-offset_bounds-out-count invariant-loop decreases-loop
 mul-value c = search rules
 
-slice-set-from-value : tie.Need-slice-set-from-value invariant-loop decreases-loop
-slice-set-from-value c = omega (arith, c.before.before.before.before.loop-test.true)
+slice-set-from-value : tie.Need-bounds-out-count invariant-loop decreases-loop
+slice-set-from-value c = omega (arith, c.before.before.before.before.loop-count-test.true)
 
-add-count : tie.Need-overflow-add-count invariant-loop decreases-loop
-add-count c = omega (arith, c.before.before.before.before.loop-test.true)
+add-count : tie.Need-overflow_add-count invariant-loop decreases-loop
+add-count c = omega (arith, c.before.before.before.before.loop-count-test.true)
 
-same-length-2 : tie.Need-same-length-2 invariant-loop decreases-loop
-same-length-2 c = length-set c.before.before.before.before.before.before.loop.out c.before.before.before.before.before.before.loop.count _ ∙ c.before.before.before.before.before.before.loop.invariant.same
+same-length-2 : tie.Need-shape_of-out-then-end-line invariant-loop decreases-loop
+same-length-2 c = length-set c.before.before.before.before.before.before.loop-count.out c.before.before.before.before.before.before.loop-count.count _ ∙ c.before.before.before.before.before.before.loop-count.invariant.same
 
-returns-2 : tie.Need-returns-2 invariant-loop decreases-loop
-returns-2 c = words_end c.before.before.before.before.before.before.before.before.args.line.now c.before.before.before.before.before.before.before.before.args.out.now c.before.before.before.before.before.before.loop.out c.before.before.before.before.before.before.loop.at c.before.before.before.before.before.before.loop.count c.before.before.before.before.before.before.loop.invariant _ c.before.before.before.before.word_at.ensures _ _ c.before.before.value.given.1 c.before.before.before.before.before.loop-test.true c.if1.true
+returns-2 : tie.Need-returns-then-end-line invariant-loop decreases-loop
+returns-2 c = words_end c.before.before.before.before.before.before.before.before.args.line.now c.before.before.before.before.before.before.before.before.args.out.now c.before.before.before.before.before.before.loop-count.out c.before.before.before.before.before.before.loop-count.at c.before.before.before.before.before.before.loop-count.count c.before.before.before.before.before.before.loop-count.invariant _ c.before.before.before.before.word_at.ensures _ _ c.before.before.value-1.given.1 c.before.before.before.before.before.loop-count-test.true c.if-end-line.true
 
-loop-again : tie.Need-loop-preserved invariant-loop decreases-loop
-loop-again c = words_go c.before.before.before.before.before.before.before.before.args.line.now c.before.before.before.before.before.before.before.before.args.out.now c.before.before.before.before.before.before.loop.out c.before.before.before.before.before.before.loop.at c.before.before.before.before.before.before.loop.count c.before.before.before.before.before.before.loop.invariant _ c.before.before.before.before.word_at.ensures _ _ c.before.before.value.given.1 c.before.before.before.before.before.loop-test.true c.if1.false
+loop-again : tie.Need-loop-count-preserved invariant-loop decreases-loop
+loop-again c = words_go c.before.before.before.before.before.before.before.before.args.line.now c.before.before.before.before.before.before.before.before.args.out.now c.before.before.before.before.before.before.loop-count.out c.before.before.before.before.before.before.loop-count.at c.before.before.before.before.before.before.loop-count.count c.before.before.before.before.before.before.loop-count.invariant _ c.before.before.before.before.word_at.ensures _ _ c.before.before.value-1.given.1 c.before.before.before.before.before.loop-count-test.true c.if-end-line.false
 
-add_at : tie.Need-overflow-add-at invariant-loop decreases-loop
+add_at : tie.Need-overflow_add-at invariant-loop decreases-loop
 add_at c = omega (arith, (loop-again c).inside, c.before.before.before.before.before.before.before.before.well-formed)
 
-loop-less : tie.Need-loop-smaller invariant-loop decreases-loop
-loop-less c = simp length-set (omega (arith, c.before.before.before.before.before.loop-test.true))
+loop-less : tie.Need-loop-count-smaller invariant-loop decreases-loop
+loop-less c = simp length-set (omega (arith, c.before.before.before.before.before.loop-count-test.true))
 
-same-length-3 : tie.Need-same-length-3 invariant-loop decreases-loop
-same-length-3 c = c.before.loop.invariant.same
+same-length-3 : tie.Need-shape_of-out invariant-loop decreases-loop
+same-length-3 c = c.before.loop-count.invariant.same
 
-returns-3 : tie.Need-returns-3 invariant-loop decreases-loop
-returns-3 c = full word_of c.before.before.before.args.line.now c.before.before.before.args.out.now c.before.loop.out c.before.loop.at c.before.loop.count c.before.loop.invariant c.loop-test.false
+returns-3 : tie.Need-returns invariant-loop decreases-loop
+returns-3 c = full word_of c.before.before.before.args.line.now c.before.before.before.args.out.now c.before.loop-count.out c.before.loop-count.at c.before.loop-count.count c.before.loop-count.invariant c.loop-count-test.false
 
 pub read_words_spec : {M : Type 1} → statement M
-read_words_spec =
-    tie.close
-    (tie.spec
+read_words_spec = tie.close (tie.spec
     invariant-loop
     decreases-loop
     loop-holds

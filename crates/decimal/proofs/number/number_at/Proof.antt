@@ -8,7 +8,7 @@ use borrow.Author.Rules.{rules}
 use Rattle.decimal.proofs.number.number_at.Statement.{statement}
 use Rattle.decimal.proofs.number.number_at.Tie as tie
 
-signed-at-requires : tie.Need-signed-at-requires
+signed-at-requires : tie.Need-signed_at-requires
 signed-at-requires c κs = search rules
 
 ended-requires : tie.Need-ended-requires
@@ -17,8 +17,11 @@ ended-requires c κs = search rules
 returns : tie.Need-returns
 returns c =
     subst⁻¹ (NumberContract c.before.before.before.args.line.now c.before.before.before.args.at)
-    (c.ended.ensures ∙ (ap (ended_in c.before.before.before.args.line.now) c.before.signed-at.ensures ∙ number_is c.before.before.before.args.line.now c.before.before.before.args.at))
+    (c.ended.ensures ∙ (ap (ended_in c.before.before.before.args.line.now) c.before.signed_at.ensures ∙ number_is c.before.before.before.args.line.now c.before.before.before.args.at))
     (number_contract c.before.before.before.args.line.now c.before.before.before.args.at)
 
 pub number_at_spec : {M : Type 1} → statement M
-number_at_spec = tie.close (tie.spec signed-at-requires ended-requires returns)
+number_at_spec = tie.close (tie.spec
+    signed-at-requires
+    ended-requires
+    returns)

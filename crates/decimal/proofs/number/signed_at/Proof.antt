@@ -6,34 +6,32 @@ use borrow.Author.Rules.{rules}
 use Rattle.decimal.proofs.number.signed_at.Statement.{statement}
 use Rattle.decimal.proofs.number.signed_at.Tie as tie
 
-returns : tie.Need-returns
-returns c = sym (signed_end c.before.before.args.line.now c.before.before.args.at c.if1.true)
+returns : tie.Need-returns-then-line-at
+returns c = sym (signed_end c.before.before.args.line.now c.before.before.args.at c.if-line-at.true)
 
-shared-slice-read-if2 : tie.Need-shared-slice-read-if2
+shared-slice-read-if2 : tie.Need-bounds-line-at
 shared-slice-read-if2 c = search rules
 
-add-natural-at : tie.Need-overflow-add-natural-at
+add-natural-at : tie.Need-overflow_add-at
 add-natural-at c = search rules
 
-natural-at-requires : tie.Need-natural-at-requires
+natural-at-requires : tie.Need-natural_at-requires
 natural-at-requires c κs = search rules
 
-below-zero-requires : tie.Need-below-zero-requires
+below-zero-requires : tie.Need-below_zero-requires
 below-zero-requires c κs = search rules
 
-returns-2 : tie.Need-returns-2
-returns-2 c = c.below-zero.ensures ∙ (ap negated c.before.natural-at.ensures ∙ sym (a_minus c.before.before.before.before.before.before.args.line.now c.before.before.before.before.before.before.args.at c.before.before.before.before.if1.false c.before.before.if2.true))
+returns-2 : tie.Need-returns-then-line-at-eq45
+returns-2 c = c.below_zero.ensures ∙ (ap negated c.before.natural_at.ensures ∙ sym (a_minus c.before.before.before.before.before.before.args.line.now c.before.before.before.before.before.before.args.at c.before.before.before.before.if-line-at.false c.before.before.if-line-at-eq45.true))
 
-natural-at-requires-2 : tie.Need-natural-at-requires-2
+natural-at-requires-2 : tie.Need-natural_at-requires-2
 natural-at-requires-2 c κs = search rules
 
-returns-3 : tie.Need-returns-3
-returns-3 c = c.natural-at2.ensures ∙ sym (no_minus c.before.before.before.before.before.args.line.now c.before.before.before.before.before.args.at c.before.before.before.if1.false c.before.if2.false)
+returns-3 : tie.Need-returns
+returns-3 c = c.natural_at-2.ensures ∙ sym (no_minus c.before.before.before.before.before.args.line.now c.before.before.before.before.before.args.at c.before.before.before.if-line-at.false c.before.if-line-at-eq45.false)
 
 pub signed_at_spec : {M : Type 1} → statement M
-signed_at_spec =
-    tie.close
-    (tie.spec
+signed_at_spec = tie.close (tie.spec
     returns
     shared-slice-read-if2
     add-natural-at

@@ -5,34 +5,32 @@ use borrow.Author.Rules.{rules}
 use Rattle.decimal.proofs.print.put_decimal.Statement.{statement}
 use Rattle.decimal.proofs.print.put_decimal.Tie as tie
 
-digit-count-requires : tie.Need-digit-count-requires
+digit-count-requires : tie.Need-digit_count-requires
 digit-count-requires c κs = search rules
 
-add-last : tie.Need-overflow-add-last
-add-last c = omega (arith, last_room c.before.before.args.output.now c.before.before.args.at c.before.before.args.n c.before.before.ranges.n.fits c.before.before.requires _ c.digit-count.ensures, c.before.before.well-formed, c.before.before.requires)
+add-last : tie.Need-overflow_add-last
+add-last c = omega (arith, last_room c.before.before.args.output.now c.before.before.args.at c.before.before.args.n c.before.before.ranges.n.fits c.before.before.requires _ c.digit_count.ensures, c.before.before.well-formed, c.before.before.requires)
 
-put-digits-requires : tie.Need-put-digits-requires
-put-digits-requires c κs = (omega (arith, c.before.digit-count.ensures), omega (arith, last_room c.before.before.before.args.output.now c.before.before.before.args.at c.before.before.before.args.n c.before.before.before.ranges.n.fits c.before.before.before.requires _ c.before.digit-count.ensures, c.before.before.before.requires))
+put-digits-requires : tie.Need-put_digits-requires
+put-digits-requires c κs = (omega (arith, c.before.digit_count.ensures), omega (arith, last_room c.before.before.before.args.output.now c.before.before.before.args.at c.before.before.before.args.n c.before.before.before.ranges.n.fits c.before.before.before.requires _ c.before.digit_count.ensures, c.before.before.before.requires))
 
-cast-put-byte : tie.Need-overflow-cast-put-byte
+cast-put-byte : tie.Need-overflow_cast-n
 cast-put-byte c = search rules
 
-add-put-byte : tie.Need-overflow-add-put-byte
+add-put-byte : tie.Need-overflow_add-n
 add-put-byte c = search rules
 
-put-byte-requires : tie.Need-put-byte-requires
-put-byte-requires c κs = omega (arith, last_room c.before.before.before.before.before.before.before.args.output.now c.before.before.before.before.before.before.before.args.at c.before.before.before.before.before.before.before.args.n c.before.before.before.before.before.before.before.ranges.n.fits c.before.before.before.before.before.before.before.requires _ c.before.before.before.before.before.digit-count.ensures, c.before.before.before.before.before.before.before.requires, c.before.before.before.put-digits.auto)
+put-byte-requires : tie.Need-put_byte-requires
+put-byte-requires c κs = omega (arith, last_room c.before.before.before.before.before.before.before.args.output.now c.before.before.before.before.before.before.before.args.at c.before.before.before.before.before.before.before.args.n c.before.before.before.before.before.before.before.ranges.n.fits c.before.before.before.before.before.before.before.requires _ c.before.before.before.before.before.digit_count.ensures, c.before.before.before.before.before.before.before.requires, c.before.before.before.put_digits.auto)
 
-same_length : tie.Need-same-length
+same_length : tie.Need-shape_of-output
 same_length c = search rules
 
 returns : tie.Need-returns
-returns c = decimal_wrote c.before.before.before.before.before.before.before.before.before.before.args.output.now c.before.before.before.before.before.before.before.before.before.before.args.at c.before.before.before.before.before.before.before.before.before.before.args.n c.before.before.before.before.before.before.before.before.before.before.ranges.n.fits c.before.before.before.before.before.before.before.before.before.before.requires _ c.before.before.before.before.before.before.before.before.digit-count.ensures _ _ _ c.before.before.before.before.before.before.put-digits.ensures c.before.before.put_byte.ensures
+returns c = decimal_wrote c.before.before.before.before.before.before.before.before.before.before.args.output.now c.before.before.before.before.before.before.before.before.before.before.args.at c.before.before.before.before.before.before.before.before.before.before.args.n c.before.before.before.before.before.before.before.before.before.before.ranges.n.fits c.before.before.before.before.before.before.before.before.before.before.requires _ c.before.before.before.before.before.before.before.before.digit_count.ensures _ _ _ c.before.before.before.before.before.before.put_digits.ensures c.before.before.put_byte.ensures
 
 pub put_decimal_spec : {M : Type 1} → statement M
-put_decimal_spec =
-    tie.close
-    (tie.spec
+put_decimal_spec = tie.close (tie.spec
     digit-count-requires
     add-last
     put-digits-requires

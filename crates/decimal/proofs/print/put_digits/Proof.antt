@@ -4,43 +4,41 @@ use Rattle.decimal.proofs.PrintTurn.{Digging, digits_begin, digits_room, digits_
 use Rattle.decimal.proofs.print.put_digits.Statement.{statement}
 use Rattle.decimal.proofs.print.put_digits.Tie as tie
 
-abbrev invariant-loop : tie.invariant-loop
+abbrev invariant-loop : tie.invariant-loop-rest
 invariant-loop output₀ end n at₀ rest₀ output at rest = Digging output₀ end n output at rest
 
-abbrev decreases-loop : tie.decreases-loop
+abbrev decreases-loop : tie.decreases-loop-rest
 decreases-loop output₀ end n at₀ rest₀ output at rest = rest
 
-loop-holds : tie.Need-loop-init invariant-loop decreases-loop
+loop-holds : tie.Need-loop-rest-init invariant-loop decreases-loop
 loop-holds c = digits_begin c.args.output.now c.args.end c.args.n c.requires.1 c.requires.0
 
-sub_at : tie.Need-overflow-sub-at invariant-loop decreases-loop
-sub_at c = digits_room c.before.before.args.output.now c.before.before.args.end c.before.before.args.n c.before.before.requires.1 c.before.loop.output c.before.loop.at c.before.loop.rest c.before.loop.invariant c.loop-test.true
+sub_at : tie.Need-overflow_sub-at invariant-loop decreases-loop
+sub_at c = digits_room c.before.before.args.output.now c.before.before.args.end c.before.before.args.n c.before.before.requires.1 c.before.loop-rest.output c.before.loop-rest.at c.before.loop-rest.rest c.before.loop-rest.invariant c.loop-rest-test.true
 
-cast-output : tie.Need-overflow-cast-output invariant-loop decreases-loop
+cast-output : tie.Need-overflow_cast-output invariant-loop decreases-loop
 cast-output c = omega arith
 
-add-output : tie.Need-overflow-add-output invariant-loop decreases-loop
+add-output : tie.Need-overflow_add-output invariant-loop decreases-loop
 add-output c = omega arith
 
-slice-write-output : tie.Need-slice-write-output invariant-loop decreases-loop
-slice-write-output c = omega (arith, digits_room c.before.before.args.output.now c.before.before.args.end c.before.before.args.n c.before.before.requires.1 c.before.loop.output c.before.loop.at c.before.loop.rest c.before.loop.invariant c.loop-test.true, digits_inside c.before.before.args.output.now c.before.before.args.end c.before.before.args.n c.before.before.requires.1 c.before.loop.output c.before.loop.at c.before.loop.rest c.before.loop.invariant)
+slice-write-output : tie.Need-bounds-output-at invariant-loop decreases-loop
+slice-write-output c = omega (arith, digits_room c.before.before.args.output.now c.before.before.args.end c.before.before.args.n c.before.before.requires.1 c.before.loop-rest.output c.before.loop-rest.at c.before.loop-rest.rest c.before.loop-rest.invariant c.loop-rest-test.true, digits_inside c.before.before.args.output.now c.before.before.args.end c.before.before.args.n c.before.before.requires.1 c.before.loop-rest.output c.before.loop-rest.at c.before.loop-rest.rest c.before.loop-rest.invariant)
 
-loop-less : tie.Need-loop-smaller invariant-loop decreases-loop
+loop-less : tie.Need-loop-rest-smaller invariant-loop decreases-loop
 loop-less c = omega arith
 
-loop-again : tie.Need-loop-preserved invariant-loop decreases-loop
-loop-again c = digits_go c.before.before.args.output.now c.before.before.args.end c.before.before.args.n c.before.before.requires.1 c.before.loop.output c.before.loop.at c.before.loop.rest c.before.loop.invariant c.loop-test.true
+loop-again : tie.Need-loop-rest-preserved invariant-loop decreases-loop
+loop-again c = digits_go c.before.before.args.output.now c.before.before.args.end c.before.before.args.n c.before.before.requires.1 c.before.loop-rest.output c.before.loop-rest.at c.before.loop-rest.rest c.before.loop-rest.invariant c.loop-rest-test.true
 
-same_length : tie.Need-same-length invariant-loop decreases-loop
-same_length c = c.before.loop.invariant.same
+same_length : tie.Need-shape_of-output invariant-loop decreases-loop
+same_length c = c.before.loop-rest.invariant.same
 
 returns : tie.Need-returns invariant-loop decreases-loop
-returns c = digits_end c.before.before.args.output.now c.before.before.args.end c.before.before.args.n c.before.before.requires.1 c.before.loop.output c.before.loop.at c.before.loop.rest c.before.loop.invariant c.loop-test.false
+returns c = digits_end c.before.before.args.output.now c.before.before.args.end c.before.before.args.n c.before.before.requires.1 c.before.loop-rest.output c.before.loop-rest.at c.before.loop-rest.rest c.before.loop-rest.invariant c.loop-rest-test.false
 
 pub put_digits_spec : {M : Type 1} → statement M
-put_digits_spec =
-    tie.close
-    (tie.spec
+put_digits_spec = tie.close (tie.spec
     invariant-loop
     decreases-loop
     loop-holds

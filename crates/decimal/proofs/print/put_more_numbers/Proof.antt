@@ -12,49 +12,47 @@ use Rattle.decimal.specs.Decimal.{decimal}
 use Rattle.decimal.proofs.print.put_more_numbers.Statement.{statement}
 use Rattle.decimal.proofs.print.put_more_numbers.Tie as tie
 
-abbrev invariant-loop : tie.invariant-loop
+abbrev invariant-loop : tie.invariant-loop-i
 invariant-loop output₀ at numbers next₀ i₀ output next i = (i ≤ length numbers) × (next ≤ at + 21 * i) × Putting output₀ at (continued (map decimal (take i numbers))) output next
 
-abbrev decreases-loop : tie.decreases-loop
+abbrev decreases-loop : tie.decreases-loop-i
 decreases-loop output₀ at numbers next₀ i₀ output next i = length numbers - i
 
-loop-holds : tie.Need-loop-init invariant-loop decreases-loop
+loop-holds : tie.Need-loop-i-init invariant-loop decreases-loop
 loop-holds c = (omega arith, omega arith, list_begins decimal c.before.before.args.output.now c.before.before.args.at c.before.before.args.numbers.now)
 
-put-byte-requires : tie.Need-put-byte-requires invariant-loop decreases-loop
-put-byte-requires c κs = omega (arith, c.before.before.loop.invariant.2.same, c.before.before.before.before.before.requires)
+put-byte-requires : tie.Need-put_byte-behind-requires invariant-loop decreases-loop
+put-byte-requires c κs = omega (arith, c.before.before.loop-i.invariant.2.same, c.before.before.before.before.before.requires)
 
-mul-put-decimal : tie.Need-overflow-mul-put-decimal invariant-loop decreases-loop
+mul-put-decimal : tie.Need-offset_bounds-numbers-i invariant-loop decreases-loop
 mul-put-decimal c = search rules
 
-shared-slice-read-put-decimal : tie.Need-shared-slice-read-put-decimal invariant-loop decreases-loop
-shared-slice-read-put-decimal c = omega (arith, c.before.before.before.before.before.before.loop-test.true)
+shared-slice-read-put-decimal : tie.Need-bounds-numbers-i invariant-loop decreases-loop
+shared-slice-read-put-decimal c = omega (arith, c.before.before.before.before.before.before.loop-i-test.true)
 
-cast-put-decimal : tie.Need-overflow-cast-put-decimal invariant-loop decreases-loop
-cast-put-decimal c = omega (arith, c.shared-slice-known2.given c.before.before.before.before.before.before.before.loop.i)
+cast-put-decimal : tie.Need-overflow_cast-numbers invariant-loop decreases-loop
+cast-put-decimal c = omega (arith, c.shared_slice_known-in-loop-i-1.given c.before.before.before.before.before.before.before.loop-i.i)
 
-put-decimal-requires : tie.Need-put-decimal-requires invariant-loop decreases-loop
-put-decimal-requires c κs = omega (arith, c.before.before.before.before.before.before.before.loop.invariant.2.same, c.before.before.before.before.before.before.before.before.before.before.requires, c.before.before.before.before.before.before.loop-test.true, c.before.before.before.before.put_byte.ensures.end, c.before.before.before.before.put_byte.auto)
+put-decimal-requires : tie.Need-put_decimal-next-requires invariant-loop decreases-loop
+put-decimal-requires c κs = omega (arith, c.before.before.before.before.before.before.before.loop-i.invariant.2.same, c.before.before.before.before.before.before.before.before.before.before.requires, c.before.before.before.before.before.before.loop-i-test.true, c.before.before.before.before.put_byte-behind.ensures.end, c.before.before.before.before.put_byte-behind.auto)
 
-add-i : tie.Need-overflow-add-i invariant-loop decreases-loop
-add-i c = omega (arith, c.before.before.before.before.before.before.before.before.before.loop-test.true)
+add-i : tie.Need-overflow_add-i invariant-loop decreases-loop
+add-i c = omega (arith, c.before.before.before.before.before.before.before.before.before.loop-i-test.true)
 
-loop-less : tie.Need-loop-smaller invariant-loop decreases-loop
-loop-less c = omega (arith, c.before.before.before.before.before.before.before.before.before.loop-test.true)
+loop-less : tie.Need-loop-i-smaller invariant-loop decreases-loop
+loop-less c = omega (arith, c.before.before.before.before.before.before.before.before.before.loop-i-test.true)
 
-loop-again : tie.Need-loop-preserved invariant-loop decreases-loop
-loop-again c = (omega (arith, c.before.before.before.before.before.before.before.before.before.loop-test.true), omega (arith, c.before.before.put-decimal.ensures.1, c.before.before.before.before.before.before.before.put_byte.ensures.end, c.before.before.before.before.before.before.before.before.before.before.loop.invariant), list_goes decimal c.before.before.before.before.before.before.before.before.before.before.before.before.before.args.output.now c.before.before.before.before.before.before.before.before.before.before.before.before.before.args.at c.before.before.before.before.before.before.before.before.before.before.before.before.before.args.numbers.now c.before.before.before.before.before.before.before.before.before.before.loop.output c.before.before.before.before.before.before.before.before.before.before.loop.next c.before.before.before.before.before.before.before.before.before.before.loop.i c.before.before.before.before.before.before.before.before.before.before.loop.invariant.2 0 _ _ _ _ _ refl c.before.before.before.before.before.before.before.before.before.loop-test.true (omega (arith, c.before.before.before.before.before.before.before.before.before.before.loop.invariant.2.same, c.before.before.before.before.before.before.before.before.before.before.loop.invariant.1, c.before.before.before.before.before.before.before.before.before.before.before.before.before.requires, c.before.before.before.before.before.before.before.before.before.loop-test.true)) c.before.before.before.before.before.before.before.put_byte.ensures c.before.before.put-decimal.ensures.0 c.before.before.before.before.before.before.before.put_byte.auto.0 c.before.before.put-decimal.auto.0)
+loop-again : tie.Need-loop-i-preserved invariant-loop decreases-loop
+loop-again c = (omega (arith, c.before.before.before.before.before.before.before.before.before.loop-i-test.true), omega (arith, c.before.before.put_decimal-next.ensures.1, c.before.before.before.before.before.before.before.put_byte-behind.ensures.end, c.before.before.before.before.before.before.before.before.before.before.loop-i.invariant), list_goes decimal c.before.before.before.before.before.before.before.before.before.before.before.before.before.args.output.now c.before.before.before.before.before.before.before.before.before.before.before.before.before.args.at c.before.before.before.before.before.before.before.before.before.before.before.before.before.args.numbers.now c.before.before.before.before.before.before.before.before.before.before.loop-i.output c.before.before.before.before.before.before.before.before.before.before.loop-i.next c.before.before.before.before.before.before.before.before.before.before.loop-i.i c.before.before.before.before.before.before.before.before.before.before.loop-i.invariant.2 0 _ _ _ _ _ refl c.before.before.before.before.before.before.before.before.before.loop-i-test.true (omega (arith, c.before.before.before.before.before.before.before.before.before.before.loop-i.invariant.2.same, c.before.before.before.before.before.before.before.before.before.before.loop-i.invariant.1, c.before.before.before.before.before.before.before.before.before.before.before.before.before.requires, c.before.before.before.before.before.before.before.before.before.loop-i-test.true)) c.before.before.before.before.before.before.before.put_byte-behind.ensures c.before.before.put_decimal-next.ensures.0 c.before.before.before.before.before.before.before.put_byte-behind.auto.0 c.before.before.put_decimal-next.auto.0)
 
-same_length : tie.Need-same-length invariant-loop decreases-loop
-same_length c = c.before.loop.invariant.2.same
+same_length : tie.Need-shape_of-output invariant-loop decreases-loop
+same_length c = c.before.loop-i.invariant.2.same
 
 returns : tie.Need-returns invariant-loop decreases-loop
-returns c = (list_ends decimal c.before.before.before.before.args.output.now c.before.before.before.before.args.at c.before.before.before.before.args.numbers.now c.before.loop.output c.before.loop.next c.before.loop.i c.before.loop.invariant.2 c.loop-test.false, omega (arith, c.before.loop.invariant))
+returns c = (list_ends decimal c.before.before.before.before.args.output.now c.before.before.before.before.args.at c.before.before.before.before.args.numbers.now c.before.loop-i.output c.before.loop-i.next c.before.loop-i.i c.before.loop-i.invariant.2 c.loop-i-test.false, omega (arith, c.before.loop-i.invariant))
 
 pub put_more_numbers_spec : {M : Type 1} → statement M
-put_more_numbers_spec =
-    tie.close
-    (tie.spec
+put_more_numbers_spec = tie.close (tie.spec
     invariant-loop
     decreases-loop
     loop-holds

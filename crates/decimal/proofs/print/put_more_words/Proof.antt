@@ -11,43 +11,41 @@ use lib.IntN.{pos}
 use Rattle.decimal.proofs.print.put_more_words.Statement.{statement}
 use Rattle.decimal.proofs.print.put_more_words.Tie as tie
 
-abbrev invariant-loop : tie.invariant-loop
+abbrev invariant-loop : tie.invariant-loop-i
 invariant-loop output₀ at words next₀ i₀ output next i = (i ≤ length words) × (next ≤ at + 22 * i) × Putting output₀ at (continued (map whole_text (take i words))) output next
 
-abbrev decreases-loop : tie.decreases-loop
+abbrev decreases-loop : tie.decreases-loop-i
 decreases-loop output₀ at words next₀ i₀ output next i = length words - i
 
-loop-holds : tie.Need-loop-init invariant-loop decreases-loop
+loop-holds : tie.Need-loop-i-init invariant-loop decreases-loop
 loop-holds c = (omega arith, omega arith, list_begins whole_text c.before.args.output.now c.before.args.at c.before.args.words.now)
 
-put-byte-requires : tie.Need-put-byte-requires invariant-loop decreases-loop
-put-byte-requires c κs = omega (arith, c.before.before.loop.invariant.2.same, c.before.before.before.before.requires)
+put-byte-requires : tie.Need-put_byte-behind-requires invariant-loop decreases-loop
+put-byte-requires c κs = omega (arith, c.before.before.loop-i.invariant.2.same, c.before.before.before.before.requires)
 
 element-requires : tie.Need-element-requires invariant-loop decreases-loop
-element-requires c κs = omega (arith, c.before.before.before.before.before.loop-test.true)
+element-requires c κs = omega (arith, c.before.before.before.before.before.loop-i-test.true)
 
-put-word-requires : tie.Need-put-word-requires invariant-loop decreases-loop
-put-word-requires c κs = omega (arith, c.before.before.before.before.before.before.before.loop.invariant.2.same, c.before.before.before.before.before.before.before.before.before.requires, c.before.before.before.before.before.before.loop-test.true, c.before.before.before.before.put_byte.ensures.end, c.before.before.before.before.put_byte.auto)
+put-word-requires : tie.Need-put_word-next-requires invariant-loop decreases-loop
+put-word-requires c κs = omega (arith, c.before.before.before.before.before.before.before.loop-i.invariant.2.same, c.before.before.before.before.before.before.before.before.before.requires, c.before.before.before.before.before.before.loop-i-test.true, c.before.before.before.before.put_byte-behind.ensures.end, c.before.before.before.before.put_byte-behind.auto)
 
-add-i : tie.Need-overflow-add-i invariant-loop decreases-loop
-add-i c = omega (arith, c.before.before.before.before.before.before.before.before.before.loop-test.true)
+add-i : tie.Need-overflow_add-i invariant-loop decreases-loop
+add-i c = omega (arith, c.before.before.before.before.before.before.before.before.before.loop-i-test.true)
 
-loop-less : tie.Need-loop-smaller invariant-loop decreases-loop
-loop-less c = omega (arith, c.before.before.before.before.before.before.before.before.before.loop-test.true)
+loop-less : tie.Need-loop-i-smaller invariant-loop decreases-loop
+loop-less c = omega (arith, c.before.before.before.before.before.before.before.before.before.loop-i-test.true)
 
-loop-again : tie.Need-loop-preserved invariant-loop decreases-loop
-loop-again c = (omega (arith, c.before.before.before.before.before.before.before.before.before.loop-test.true), omega (arith, c.before.before.put_word.ensures.1, c.before.before.before.before.before.before.before.put_byte.ensures.end, c.before.before.before.before.before.before.before.before.before.before.loop.invariant), list_goes whole_text c.before.before.before.before.before.before.before.before.before.before.before.before.args.output.now c.before.before.before.before.before.before.before.before.before.before.before.before.args.at c.before.before.before.before.before.before.before.before.before.before.before.before.args.words.now c.before.before.before.before.before.before.before.before.before.before.loop.output c.before.before.before.before.before.before.before.before.before.before.loop.next c.before.before.before.before.before.before.before.before.before.before.loop.i c.before.before.before.before.before.before.before.before.before.before.loop.invariant.2 (pos 0) _ _ _ _ _ (kept_word _ _ c.before.before.before.element.type-inv c.before.before.before.element.ensures) c.before.before.before.before.before.before.before.before.before.loop-test.true (omega (arith, c.before.before.before.before.before.before.before.before.before.before.loop.invariant.2.same, c.before.before.before.before.before.before.before.before.before.before.loop.invariant.1, c.before.before.before.before.before.before.before.before.before.before.before.before.requires, c.before.before.before.before.before.before.before.before.before.loop-test.true)) c.before.before.before.before.before.before.before.put_byte.ensures c.before.before.put_word.ensures.0 c.before.before.before.before.before.before.before.put_byte.auto.0 c.before.before.put_word.auto.0)
+loop-again : tie.Need-loop-i-preserved invariant-loop decreases-loop
+loop-again c = (omega (arith, c.before.before.before.before.before.before.before.before.before.loop-i-test.true), omega (arith, c.before.before.put_word-next.ensures.1, c.before.before.before.before.before.before.before.put_byte-behind.ensures.end, c.before.before.before.before.before.before.before.before.before.before.loop-i.invariant), list_goes whole_text c.before.before.before.before.before.before.before.before.before.before.before.before.args.output.now c.before.before.before.before.before.before.before.before.before.before.before.before.args.at c.before.before.before.before.before.before.before.before.before.before.before.before.args.words.now c.before.before.before.before.before.before.before.before.before.before.loop-i.output c.before.before.before.before.before.before.before.before.before.before.loop-i.next c.before.before.before.before.before.before.before.before.before.before.loop-i.i c.before.before.before.before.before.before.before.before.before.before.loop-i.invariant.2 (pos 0) _ _ _ _ _ (kept_word _ _ c.before.before.before.element.type-inv c.before.before.before.element.ensures) c.before.before.before.before.before.before.before.before.before.loop-i-test.true (omega (arith, c.before.before.before.before.before.before.before.before.before.before.loop-i.invariant.2.same, c.before.before.before.before.before.before.before.before.before.before.loop-i.invariant.1, c.before.before.before.before.before.before.before.before.before.before.before.before.requires, c.before.before.before.before.before.before.before.before.before.loop-i-test.true)) c.before.before.before.before.before.before.before.put_byte-behind.ensures c.before.before.put_word-next.ensures.0 c.before.before.before.before.before.before.before.put_byte-behind.auto.0 c.before.before.put_word-next.auto.0)
 
-same_length : tie.Need-same-length invariant-loop decreases-loop
-same_length c = c.before.loop.invariant.2.same
+same_length : tie.Need-shape_of-output invariant-loop decreases-loop
+same_length c = c.before.loop-i.invariant.2.same
 
 returns : tie.Need-returns invariant-loop decreases-loop
-returns c = (list_ends whole_text c.before.before.before.args.output.now c.before.before.before.args.at c.before.before.before.args.words.now c.before.loop.output c.before.loop.next c.before.loop.i c.before.loop.invariant.2 c.loop-test.false, omega (arith, c.before.loop.invariant))
+returns c = (list_ends whole_text c.before.before.before.args.output.now c.before.before.before.args.at c.before.before.before.args.words.now c.before.loop-i.output c.before.loop-i.next c.before.loop-i.i c.before.loop-i.invariant.2 c.loop-i-test.false, omega (arith, c.before.loop-i.invariant))
 
 pub put_more_words_spec : {M : Type 1} → statement M
-put_more_words_spec =
-    tie.close
-    (tie.spec
+put_more_words_spec = tie.close (tie.spec
     invariant-loop
     decreases-loop
     loop-holds

@@ -6,46 +6,44 @@ use Rattle.decimal.proofs.PrintTurn.{Putting, text_begins, text_goes, text_ends}
 use Rattle.decimal.proofs.print.put_text.Statement.{statement}
 use Rattle.decimal.proofs.print.put_text.Tie as tie
 
-abbrev invariant-loop : tie.invariant-loop
+abbrev invariant-loop : tie.invariant-loop-i
 invariant-loop output₀ at text i₀ output i = (i ≤ length text) × Putting output₀ at (take i text) output (at + i)
 
-abbrev decreases-loop : tie.decreases-loop
+abbrev decreases-loop : tie.decreases-loop-i
 decreases-loop output₀ at text i₀ output i = length text - i
 
-loop-holds : tie.Need-loop-init invariant-loop decreases-loop
+loop-holds : tie.Need-loop-i-init invariant-loop decreases-loop
 loop-holds c = (omega arith, text_begins c.args.output.now c.args.at c.args.text.now c.requires)
 
-shared-slice-read-output : tie.Need-shared-slice-read-output invariant-loop decreases-loop
+shared-slice-read-output : tie.Need-bounds-text-i invariant-loop decreases-loop
 shared-slice-read-output c = omega arith
 
-add-output : tie.Need-overflow-add-output invariant-loop decreases-loop
+add-output : tie.Need-overflow_add-output invariant-loop decreases-loop
 add-output c = omega (arith, c.before.before.before.requires, c.before.before.before.well-formed)
 
-slice-write-output : tie.Need-slice-write-output invariant-loop decreases-loop
-slice-write-output c = omega (arith, c.before.before.before.requires, c.before.before.loop.invariant.1.same)
+slice-write-output : tie.Need-bounds-output-at invariant-loop decreases-loop
+slice-write-output c = omega (arith, c.before.before.before.requires, c.before.before.loop-i.invariant.1.same)
 
-add-i : tie.Need-overflow-add-i invariant-loop decreases-loop
+add-i : tie.Need-overflow_add-i invariant-loop decreases-loop
 add-i c = omega arith
 
-loop-less : tie.Need-loop-smaller invariant-loop decreases-loop
+loop-less : tie.Need-loop-i-smaller invariant-loop decreases-loop
 loop-less c = omega arith
 
-loop-again : tie.Need-loop-preserved invariant-loop decreases-loop
-loop-again c = (omega arith, text_goes c.before.before.before.args.output.now c.before.before.before.args.at c.before.before.before.args.text.now c.before.before.before.requires c.before.before.loop.output c.before.before.loop.i c.before.before.loop.invariant.1 c.before.loop-test.true)
+loop-again : tie.Need-loop-i-preserved invariant-loop decreases-loop
+loop-again c = (omega arith, text_goes c.before.before.before.args.output.now c.before.before.before.args.at c.before.before.before.args.text.now c.before.before.before.requires c.before.before.loop-i.output c.before.before.loop-i.i c.before.before.loop-i.invariant.1 c.before.loop-i-test.true)
 
-add-result : tie.Need-overflow-add-result invariant-loop decreases-loop
+add-result : tie.Need-overflow_add-result invariant-loop decreases-loop
 add-result c = omega (arith, c.before.before.requires, c.before.before.well-formed)
 
-same_length : tie.Need-same-length invariant-loop decreases-loop
-same_length c = c.before.loop.invariant.1.same
+same_length : tie.Need-shape_of-output invariant-loop decreases-loop
+same_length c = c.before.loop-i.invariant.1.same
 
 returns : tie.Need-returns invariant-loop decreases-loop
-returns c = text_ends c.before.before.args.output.now c.before.before.args.at c.before.before.args.text.now c.before.before.requires c.before.loop.output c.before.loop.i c.before.loop.invariant.1 c.loop-test.false c.before.loop.invariant.0
+returns c = text_ends c.before.before.args.output.now c.before.before.args.at c.before.before.args.text.now c.before.before.requires c.before.loop-i.output c.before.loop-i.i c.before.loop-i.invariant.1 c.loop-i-test.false c.before.loop-i.invariant.0
 
 pub put_text_spec : {M : Type 1} → statement M
-put_text_spec =
-    tie.close
-    (tie.spec
+put_text_spec = tie.close (tie.spec
     invariant-loop
     decreases-loop
     loop-holds

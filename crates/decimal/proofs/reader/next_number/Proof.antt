@@ -234,11 +234,17 @@ next_number_meets : {M : Type 1} {𝓤 : Ura M} (𝓛 : Logic 𝓤) (mem : Memor
 next_number_meets {𝓤 = 𝓤} 𝓛 mem run 𝓣 known-new known_next = walk_Meets 𝓛 next-number.ended stayed (Goes-none_slice 𝓛 1 (0 ∷ []) tt (plain (λ _. u8)) yes, (Goes-none 𝓛 1 (λ _. usize) yes (λ κs x f. refl), tt)) (next-number.clauses 𝓛 mem run) (WpFn 𝓤 𝓛.H 𝓣.C 𝓣.Λ code.function) (WpFn-mono 𝓤 𝓛.H 𝓛.laws 𝓣 code.function)
     (next_number_walks 𝓛 mem run 𝓣.C 𝓣.Λ (fm_of 𝓤 𝓛.H 𝓛.laws 𝓣) known-new known_next)
 
-pub next_number_spec : {M : Type 1} → stated.statement M
-unfolding code.routine tables_of
-next_number_spec 𝓤 𝓛 𝓜 𝓡 =
-    entered 𝓤 𝓛.H (triple_of 𝓛 next-number.signature (next-number.spec 𝓛 𝓜.mem 𝓡.run))
-    (tables 𝓤 𝓛.H 𝓜 𝓡 code.env).C (tables 𝓤 𝓛.H 𝓜 𝓡 code.env).Λ #decimal·reader·next-number code.function (code.unfolded 𝓤 𝓛.H 𝓜 𝓡)
-    (next_number_meets 𝓛 𝓜.mem 𝓡.run (tables_of 𝓤 𝓛.H 𝓜 (tables 𝓤 𝓛.H 𝓜 𝓡 code.env))
-    (cited 𝓤 𝓛.H (New 𝓛 𝓜.mem 𝓡.run) 𝓜 𝓡 code.env #decimal·reader·new new-def.routine code.calls-decimal::reader::NumberReader::new (new-thm.met 𝓤 𝓛 𝓜 𝓡))
-    (cited 𝓤 𝓛.H (Next 𝓛 𝓜.mem 𝓡.run) 𝓜 𝓡 code.env #decimal·reader·next next-def.routine code.calls-decimal::reader::NumberReader::next (next-thm.met 𝓤 𝓛 𝓜 𝓡)))
+the-new-reader-requires : tie.Need-new-reader-requires
+the-new-reader-requires c = search rules
+
+the-next-requires : tie.Need-next-requires
+the-next-requires c = search rules
+
+the-returns : tie.Need-returns
+the-returns c = search rules
+
+pub next_number_spec : {M : Type 1} → statement M
+next_number_spec = tie.close (tie.spec
+    the-new-reader-requires
+    the-next-requires
+    the-returns)

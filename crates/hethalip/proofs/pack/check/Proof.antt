@@ -5,22 +5,27 @@ use Rattle.hethalip.specs.Pack.{pack_check}
 use Rattle.hethalip.proofs.pack.check.Statement.{statement}
 use Rattle.hethalip.proofs.pack.check.Tie as tie
 
-enum_told : tie.Need-enum-told
+enum_told : tie.Need-enum_told-1
 enum_told c = search rules
 
-enum-known-answer : tie.Need-enum-known-answer
+enum-known-answer : tie.Need-enum_known-answer
 enum-known-answer c = search rules
 
 number-requires : tie.Need-number-requires
 number-requires c κs = search rules
 
-returns : tie.Need-returns
+returns : tie.Need-returns-in-Good
 unfolding pack_check check_says
-returns c = rw c.enum_told.given.1
+returns c = rw c.enum_told-1.given.1
 
-returns-2 : tie.Need-returns-2
+returns-2 : tie.Need-returns-in-Refused
 unfolding pack_check check_says
-returns-2 c = rw c.before.before.answer.given.1 c.number.ensures
+returns-2 c = rw c.before.before.answer-1.given.1 c.number.ensures
 
 pub check_spec : {M : Type 1} → statement M
-check_spec = tie.close (tie.spec enum_told enum-known-answer number-requires returns returns-2)
+check_spec = tie.close (tie.spec
+    enum_told
+    enum-known-answer
+    number-requires
+    returns
+    returns-2)

@@ -9,37 +9,35 @@ use Rattle.hethalip.specs.Pack.{pack_reasons}
 use Rattle.hethalip.proofs.pack.reasons.Statement.{statement}
 use Rattle.hethalip.proofs.pack.reasons.Tie as tie
 
-enum_told : tie.Need-enum-told
+enum_told : tie.Need-enum_told-1
 enum_told c = search rules
 
-enum-known-answer : tie.Need-enum-known-answer
+enum-known-answer : tie.Need-enum_known-answer
 enum-known-answer c = search rules
 
 counted-requires : tie.Need-counted-requires
-counted-requires c κs = (lit< tt, omega (arith, subst ReasonsInRange c.before.answer.given.1 c.before.before.before.requires))
+counted-requires c κs = (lit< tt, omega (arith, subst ReasonsInRange c.before.answer-1.given.1 c.before.before.before.requires))
 
-enum-known-answer-2 : tie.Need-enum-known-answer-2
+enum-known-answer-2 : tie.Need-enum_known-answer-in-Refused-1
 enum-known-answer-2 c = search rules
 
 number-requires : tie.Need-number-requires
 number-requires c κs = search rules
 
-returns : tie.Need-returns
+returns : tie.Need-returns-in-Listed
 unfolding pack_reasons reasons_says
-returns c = rw c.enum_told.given.1
+returns c = rw c.enum_told-1.given.1
 
-returns-2 : tie.Need-returns-2
+returns-2 : tie.Need-returns-in-NotStuck
 unfolding pack_reasons reasons_says
-returns-2 c = rw c.before.before.answer.given.1 c.counted.ensures
+returns-2 c = rw c.before.before.answer-1.given.1 c.counted.ensures
 
-returns-3 : tie.Need-returns-3
+returns-3 : tie.Need-returns-in-Refused
 unfolding pack_reasons reasons_says
-returns-3 c = rw c.before.before.answer2.given.1 c.number.ensures
+returns-3 c = rw c.before.before.answer-in-Refused-1.given.1 c.number.ensures
 
 pub reasons_spec : {M : Type 1} → statement M
-reasons_spec =
-    tie.close
-    (tie.spec
+reasons_spec = tie.close (tie.spec
     enum_told
     enum-known-answer
     counted-requires

@@ -9,50 +9,48 @@ use Rattle.hethalip.specs.Pack.{pack_run}
 use Rattle.hethalip.proofs.pack.run.Statement.{statement}
 use Rattle.hethalip.proofs.pack.run.Tie as tie
 
-enum-known-answer : tie.Need-enum-known-answer
+enum-known-answer : tie.Need-enum_known-answer
 enum-known-answer c = search rules
 
 counted-requires : tie.Need-counted-requires
-counted-requires c κs = (lit< tt, subst RunInRange c.before.answer.given.1 c.before.before.before.requires)
+counted-requires c κs = (lit< tt, subst RunInRange c.before.answer-1.given.1 c.before.before.before.requires)
 
-enum-known-answer-2 : tie.Need-enum-known-answer-2
+enum-known-answer-2 : tie.Need-enum_known-answer-in-Spent-1
 enum-known-answer-2 c = search rules
 
-counted-requires-2 : tie.Need-counted-requires-2
-counted-requires-2 c κs = (lit< tt, subst RunInRange c.before.answer2.given.1 c.before.before.before.requires)
+counted-requires-2 : tie.Need-counted-requires-in-Spent
+counted-requires-2 c κs = (lit< tt, subst RunInRange c.before.answer-in-Spent-1.given.1 c.before.before.before.requires)
 
-enum-known-answer-3 : tie.Need-enum-known-answer-3
+enum-known-answer-3 : tie.Need-enum_known-answer-in-Over-1
 enum-known-answer-3 c = search rules
 
-counted-requires-3 : tie.Need-counted-requires-3
-counted-requires-3 c κs = (lit< tt, subst RunInRange c.before.answer3.given.1 c.before.before.before.requires)
+counted-requires-3 : tie.Need-counted-requires-in-Over
+counted-requires-3 c κs = (lit< tt, subst RunInRange c.before.answer-in-Over-1.given.1 c.before.before.before.requires)
 
-enum-known-answer-4 : tie.Need-enum-known-answer-4
+enum-known-answer-4 : tie.Need-enum_known-answer-in-Refused-1
 enum-known-answer-4 c = search rules
 
 number-requires : tie.Need-number-requires
 number-requires c κs = search rules
 
-returns : tie.Need-returns
+returns : tie.Need-returns-in-Stuck
 unfolding pack_run run_says
-returns c = rw c.before.before.answer.given.1 c.counted.ensures
+returns c = rw c.before.before.answer-1.given.1 c.counted.ensures
 
-returns-2 : tie.Need-returns-2
+returns-2 : tie.Need-returns-in-Spent
 unfolding pack_run run_says
-returns-2 c = rw c.before.before.answer2.given.1 c.counted2.ensures
+returns-2 c = rw c.before.before.answer-in-Spent-1.given.1 c.counted-in-Spent.ensures
 
-returns-3 : tie.Need-returns-3
+returns-3 : tie.Need-returns-in-Over
 unfolding pack_run number run_says
-returns-3 c = rw c.before.before.answer3.given.1 c.counted3.ensures
+returns-3 c = rw c.before.before.answer-in-Over-1.given.1 c.counted-in-Over.ensures
 
-returns-4 : tie.Need-returns-4
+returns-4 : tie.Need-returns-in-Refused
 unfolding pack_run run_says
-returns-4 c = rw c.before.before.answer4.given.1 c.number.ensures
+returns-4 c = rw c.before.before.answer-in-Refused-1.given.1 c.number.ensures
 
 pub run_spec : {M : Type 1} → statement M
-run_spec =
-    tie.close
-    (tie.spec
+run_spec = tie.close (tie.spec
     enum-known-answer
     counted-requires
     enum-known-answer-2

@@ -7,38 +7,36 @@ use Rattle.hethalip.specs.Pack.{pack_step}
 use Rattle.hethalip.proofs.pack.step.Statement.{statement}
 use Rattle.hethalip.proofs.pack.step.Tie as tie
 
-enum-known-answer : tie.Need-enum-known-answer
+enum-known-answer : tie.Need-enum_known-answer
 enum-known-answer c = search rules
 
 stepped-requires : tie.Need-stepped-requires
 stepped-requires c κs =
-    let h = subst StepInRange c.before.answer.given.1 c.before.before.before.requires in (h.0, h.2)
+    let h = subst StepInRange c.before.answer-1.given.1 c.before.before.before.requires in (h.0, h.2)
 
-enum_told : tie.Need-enum-told
+enum_told : tie.Need-enum_told-1
 enum_told c = search rules
 
-enum-known-answer-2 : tie.Need-enum-known-answer-2
+enum-known-answer-2 : tie.Need-enum_known-answer-in-Refused-1
 enum-known-answer-2 c = search rules
 
 number-requires : tie.Need-number-requires
 number-requires c κs = search rules
 
-returns : tie.Need-returns
+returns : tie.Need-returns-in-Stepped
 unfolding pack_step step_says
-returns c = rw c.before.before.answer.given.1 c.stepped.ensures
+returns c = rw c.before.before.answer-1.given.1 c.stepped.ensures
 
-returns-2 : tie.Need-returns-2
+returns-2 : tie.Need-returns-in-Stuck
 unfolding pack_step step_says
-returns-2 c = rw c.enum_told.given.1
+returns-2 c = rw c.enum_told-1.given.1
 
-returns-3 : tie.Need-returns-3
+returns-3 : tie.Need-returns-in-Refused
 unfolding pack_step step_says
-returns-3 c = rw c.before.before.answer2.given.1 c.number.ensures
+returns-3 c = rw c.before.before.answer-in-Refused-1.given.1 c.number.ensures
 
 pub step_spec : {M : Type 1} → statement M
-step_spec =
-    tie.close
-    (tie.spec
+step_spec = tie.close (tie.spec
     enum-known-answer
     stepped-requires
     enum_told

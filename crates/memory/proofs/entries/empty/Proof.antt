@@ -53,57 +53,55 @@ module _ (w₀ : List ℤ) (at width count : ℕ) (w : List ℤ) (slot : ℕ) (k
           let e : slot ≡ s = omega arith in
           subst (λ (r : ℕ). get_or (set w (at + slot * width) (pos 0)) (at + r * width) (pos 0) ≡ pos 0) e (get_or-set_same w (at + slot * width) (pos 0) (pos 0) here)
 
-abbrev invariant-loop : tie.invariant-loop
+abbrev invariant-loop : tie.invariant-loop-slot
 invariant-loop work₀ at width count slot₀ work slot = Emptied work₀ at width count work slot
 
-abbrev decreases-loop : tie.decreases-loop
+abbrev decreases-loop : tie.decreases-loop-slot
 decreases-loop work₀ at width count slot₀ work slot = count + 1 - slot
 
-loop-holds : tie.Need-loop-init invariant-loop decreases-loop
+loop-holds : tie.Need-loop-slot-init invariant-loop decreases-loop
 loop-holds c = record { first = omega arith; up = omega arith; some = c.requires.1; fits = c.requires.0; wide = refl; below = refl; behind = refl; empty = λ s x y. absurd (let f : ⊥ = omega arith in f) }
 
-mul-put : tie.Need-overflow-mul-put invariant-loop decreases-loop
+mul-put : tie.Need-overflow_mul-slot invariant-loop decreases-loop
 mul-put c =
     let l = c.before.before in
     let a = l.before.args in
-    omega (arith, here a.work.now a.at a.width a.count l.loop.work l.loop.slot l.loop.invariant c.before.loop-test.true)
+    omega (arith, here a.work.now a.at a.width a.count l.loop-slot.work l.loop-slot.slot l.loop-slot.invariant c.before.loop-slot-test.true)
 
-add-put : tie.Need-overflow-add-put invariant-loop decreases-loop
+add-put : tie.Need-overflow_add-at invariant-loop decreases-loop
 add-put c =
     let l = c.before.before in
     let a = l.before.args in
-    omega (arith, here a.work.now a.at a.width a.count l.loop.work l.loop.slot l.loop.invariant c.before.loop-test.true)
+    omega (arith, here a.work.now a.at a.width a.count l.loop-slot.work l.loop-slot.slot l.loop-slot.invariant c.before.loop-slot-test.true)
 
 put-requires : tie.Need-put-requires invariant-loop decreases-loop
 put-requires c κs =
     let l = c.before.before in
     let a = l.before.args in
-    (here a.work.now a.at a.width a.count l.loop.work l.loop.slot l.loop.invariant c.before.loop-test.true, omega arith)
+    (here a.work.now a.at a.width a.count l.loop-slot.work l.loop-slot.slot l.loop-slot.invariant c.before.loop-slot-test.true, omega arith)
 
-add-slot : tie.Need-overflow-add-slot invariant-loop decreases-loop
-add-slot c = omega (arith, c.before.before.before.loop-test.true, c.before.before.before.before.before.requires.2)
+add-slot : tie.Need-overflow_add-slot invariant-loop decreases-loop
+add-slot c = omega (arith, c.before.before.before.loop-slot-test.true, c.before.before.before.before.before.requires.2)
 
-loop-less : tie.Need-loop-smaller invariant-loop decreases-loop
-loop-less c = omega (arith, c.before.before.before.loop-test.true)
+loop-less : tie.Need-loop-slot-smaller invariant-loop decreases-loop
+loop-less c = omega (arith, c.before.before.before.loop-slot-test.true)
 
-loop-again : tie.Need-loop-preserved invariant-loop decreases-loop
+loop-again : tie.Need-loop-slot-preserved invariant-loop decreases-loop
 loop-again c =
     let l = c.before.before.before.before in
     let a = l.before.args in
-    rw c.before.put.ensures (emptied a.work.now a.at a.width a.count l.loop.work l.loop.slot l.loop.invariant c.before.before.before.loop-test.true)
+    rw c.before.put.ensures (emptied a.work.now a.at a.width a.count l.loop-slot.work l.loop-slot.slot l.loop-slot.invariant c.before.before.before.loop-slot-test.true)
 
-same_length : tie.Need-same-length invariant-loop decreases-loop
-same_length c = c.before.loop.invariant.wide
+same_length : tie.Need-shape_of-work invariant-loop decreases-loop
+same_length c = c.before.loop-slot.invariant.wide
 
 returns : tie.Need-returns invariant-loop decreases-loop
 returns c =
-    let v = c.before.loop.invariant in
-    record { wide = v.wide; below = v.below; behind = v.behind; empty = λ s x y. v.empty s x (omega (arith, c.loop-test.false)) }
+    let v = c.before.loop-slot.invariant in
+    record { wide = v.wide; below = v.below; behind = v.behind; empty = λ s x y. v.empty s x (omega (arith, c.loop-slot-test.false)) }
 
 pub empty_spec : {M : Type 1} → statement M
-empty_spec =
-    tie.close
-    (tie.spec
+empty_spec = tie.close (tie.spec
     invariant-loop
     decreases-loop
     loop-holds

@@ -9,47 +9,55 @@ use borrow.Author.Rules.{rules}
 use Rattle.memory.proofs.entries.keep.Statement.{statement}
 use Rattle.memory.proofs.entries.keep.Tie as tie
 
-returns : tie.Need-returns
-returns c = let a = c.before.args in kept_small a.room a.work.now a.at a.words c.if1.true
+returns : tie.Need-returns-then-room-lt16
+returns c = let a = c.before.args in kept_small a.room a.work.now a.at a.words c.if-room-lt16.true
 
-add-put : tie.Need-overflow-add-put
+add-put : tie.Need-overflow_add-at
 add-put c = search rules
 
-sub-put : tie.Need-overflow-sub-put
+sub-put : tie.Need-overflow_sub-at
 sub-put c = search rules
 
 put-requires : tie.Need-put-requires
 put-requires c κs = search rules
 
-same_length : tie.Need-same-length
+same_length : tie.Need-shape_of-work-then-not-wanted
 same_length c = search rules
 
 -- no table
-returns-2 : tie.Need-returns-2
+returns-2 : tie.Need-returns-then-not-wanted
 returns-2 c =
     let e = c.before.before.before.before in
     let a = e.before.args in
-    subst⁻¹ (λ (x : List ℤ). Keeping a.room a.work.now x a.at a.words) c.before.put.ensures (kept_shut a.room a.work.now a.at a.words _ (shut_opens a.room a.work.now a.at e.before.requires.0 e.if1.false))
+    subst⁻¹ (λ (x : List ℤ). Keeping a.room a.work.now x a.at a.words) c.before.put.ensures (kept_shut a.room a.work.now a.at a.words _ (shut_opens a.room a.work.now a.at e.before.requires.0 e.if-room-lt16.false))
 
 ready-requires : tie.Need-ready-requires
 ready-requires c κs = search rules
 
-put-own-requires : tie.Need-put-own-requires
+put-own-requires : tie.Need-put_own-requires
 put-own-requires c κs =
     let r = c.before.before.ready in
     let s = c.before.before.before.before.before.before in
     let a = s.args in
     (omega (arith, s.requires.0, r.ensures.inside.wide), s.requires.1, inside_spare a.room a.work.now r.new.0 a.at r.ensures.inside s.requires.3)
 
-same-length-2 : tie.Need-same-length-2
+same-length-2 : tie.Need-shape_of-work
 same-length-2 c = search rules
 
-returns-3 : tie.Need-returns-3
+returns-3 : tie.Need-returns
 returns-3 c =
     let a = c.before.before.before.before.before.before.before.before.args in
-    kept_both a.room a.work.now a.at a.words _ _ c.before.before.before.before.ready.ensures c.before.put-own.ensures
+    kept_both a.room a.work.now a.at a.words _ _ c.before.before.before.before.ready.ensures c.before.put_own.ensures
 
 pub keep_spec : {M : Type 1} → statement M
-keep_spec =
-    tie.close
-    (tie.spec returns add-put sub-put put-requires same_length returns-2 ready-requires put-own-requires same-length-2 returns-3)
+keep_spec = tie.close (tie.spec
+    returns
+    add-put
+    sub-put
+    put-requires
+    same_length
+    returns-2
+    ready-requires
+    put-own-requires
+    same-length-2
+    returns-3)

@@ -5,11 +5,13 @@ use native.Mathlib.Omega.{arith}
 use Rattle.memory.proofs.entries.larger.Statement.{statement}
 use Rattle.memory.proofs.entries.larger.Tie as tie
 
-returns : tie.Need-returns
+returns : tie.Need-returns-then-a-b
 returns c = (omega arith, omega arith, inr refl)
 
-returns-2 : tie.Need-returns-2
+returns-2 : tie.Need-returns
 returns-2 c = (omega arith, omega arith, inl refl)
 
 pub larger_spec : {M : Type 1} → statement M
-larger_spec = tie.close (tie.spec returns returns-2)
+larger_spec = tie.close (tie.spec
+    returns
+    returns-2)

@@ -16,91 +16,89 @@ use Rattle.memory.proofs.entries.lay_out.Tie as tie
 width : tie.Start → ℕ
 width s = s.args.most + s.args.most / 4 + 2
 
-in_room : (c : tie.After-smaller) → let s = c.before.before in (c.smaller.result + 1) * width s + 2 ≤ s.args.room
+in_room : (c : tie.After-smaller-count) → let s = c.before.before in (c.smaller-count.result + 1) * width s + 2 ≤ s.args.room
 unfolding width
 in_room c =
     let s = c.before.before in
-    let h : c.smaller.result + 1 ≤ (s.args.room - 2) / width s = omega (arith, c.smaller.ensures.0, c.before.if1.left) in
+    let h : c.smaller-count.result + 1 ≤ (s.args.room - 2) / width s = omega (arith, c.smaller-count.ensures.0, c.before.if-parts-lt2.left) in
     omega (arith, mul-le-mul_right (width s) h, div-mul-le_self (s.args.room - 2) (width s), s.pre.2)
 
-add-width : tie.Need-add-width
+add-width : tie.Need-overflow_add-width
 add-width c = search rules
 
-add-width-2 : tie.Need-add-width-2
+add-width-2 : tie.Need-overflow_add-width-2
 add-width-2 c = search rules
 
-sub_parts : tie.Need-sub-parts
+sub_parts : tie.Need-overflow_sub-parts
 sub_parts c = search rules
 
-div_parts : tie.Need-div-parts
+div_parts : tie.Need-nonzero_div-parts
 div_parts c = search rules
 
-add-put : tie.Need-add-put
+add-put : tie.Need-overflow_add-at
 add-put c = search rules
 
-sub-put : tie.Need-sub-put
+sub-put : tie.Need-overflow_sub-at
 sub-put c = search rules
 
 put-requires : tie.Need-put-requires
 put-requires c κs = search rules
 
-same_length : tie.Need-same-length
+same_length : tie.Need-shape_of-work-then-parts-lt2
 same_length c = search rules
 
-returns : tie.Need-returns
+returns : tie.Need-returns-then-parts-lt2
 returns c =
     let s = c.before.before.before.before in
     let a = s.args in
     subst⁻¹ (λ (x : List ℤ). Opens a.room a.work.now x a.at) c.before.put.ensures (shut_opens a.room a.work.now a.at s.pre.0 s.pre.2)
 
-sub-smaller : tie.Need-sub-smaller
+sub-smaller : tie.Need-overflow_sub-parts-2
 sub-smaller c = search rules
 
-smaller-requires : tie.Need-smaller-requires
+smaller-requires : tie.Need-smaller-count-requires
 smaller-requires c κs = search rules
 
 empty-requires : tie.Need-empty-requires
 unfolding width
 empty-requires c κs =
     let s = c.before.before.before in
-    (omega (arith, in_room c.before, s.pre.0), omega arith, c.before.smaller.ensures.1)
+    (omega (arith, in_room c.before, s.pre.0), omega arith, c.before.smaller-count.ensures.1)
 
-add-put-2 : tie.Need-add-put-2
+add-put-2 : tie.Need-overflow_add-at-2
 add-put-2 c = search rules
 
-sub-put-2 : tie.Need-sub-put-2
+sub-put-2 : tie.Need-overflow_sub-at-2
 sub-put-2 c = search rules
 
 put-requires-2 : tie.Need-put-requires-2
 put-requires-2 c κs = search rules
 
-add-put-3 : tie.Need-add-put-3
+add-put-3 : tie.Need-overflow_add-at-3
 add-put-3 c = search rules
 
-sub-put-3 : tie.Need-sub-put-3
+sub-put-3 : tie.Need-overflow_sub-at-3
 sub-put-3 c = search rules
 
 put-requires-3 : tie.Need-put-requires-3
 put-requires-3 c κs = search rules
 
-same-length-2 : tie.Need-same-length-2
+same-length-2 : tie.Need-shape_of-work
 same-length-2 c = search rules
 
-returns-2 : tie.Need-returns-2
+returns-2 : tie.Need-returns
 unfolding width
 returns-2 c =
     let e = c.before.before.before.before.before.before.before in
     let m = e.before.before in
     let s = m.before.before in
     let a = s.args in
-    let z : c.before.put3.last.0 ≡ set (set e.empty.last.0 (a.at + a.room - 1) (pos (width s))) (a.at + a.room - 2) (pos m.smaller.result) =
-    c.before.put3.ensures ∙ ap (λ (x : List ℤ). set x (a.at + a.room - 2) (pos m.smaller.result)) c.before.before.before.before.put2.ensures in
-    subst⁻¹ (λ (x : List ℤ). Opens a.room a.work.now x a.at) z (anew_opens a.room a.work.now a.at s.pre.0 s.pre.2 (width s) m.smaller.result e.empty.last.0 (omega (arith, s.pre.4)) (in_room m) e.empty.ensures)
+    let z : c.before.put-3.last.0 ≡ set (set e.empty.last.0 (a.at + a.room - 1) (pos (width s))) (a.at + a.room - 2) (pos m.smaller-count.result) =
+    c.before.put-3.ensures ∙ ap (λ (x : List ℤ). set x (a.at + a.room - 2) (pos m.smaller-count.result)) c.before.before.before.before.put-2.ensures in
+    subst⁻¹ (λ (x : List ℤ). Opens a.room a.work.now x a.at) z (anew_opens a.room a.work.now a.at s.pre.0 s.pre.2 (width s) m.smaller-count.result e.empty.last.0 (omega (arith, s.pre.4)) (in_room m) e.empty.ensures)
 
 pub lay_out_spec : {M : Type 1} → statement M
-lay_out_spec =
-    tie.close
-    (tie.spec
+lay_out_spec = tie.close (tie.spec
     add-width
     add-width-2
     sub_parts

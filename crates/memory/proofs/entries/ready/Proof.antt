@@ -12,68 +12,66 @@ use borrow.Author.Rules.{rules}
 use Rattle.memory.proofs.entries.ready.Statement.{statement}
 use Rattle.memory.proofs.entries.ready.Tie as tie
 
-add-number-at : tie.Need-overflow-add-number-at
+add-number-at : tie.Need-overflow_add-at
 add-number-at c = search rules
 
-number-at-requires : tie.Need-number-at-requires
+number-at-requires : tie.Need-number_at-own-requires
 number-at-requires c κs = search rules
 
-add-put : tie.Need-overflow-add-put
+add-put : tie.Need-overflow_add-at-then-own-eq0
 add-put c = search rules
 
-sub-put : tie.Need-overflow-sub-put
+sub-put : tie.Need-overflow_sub-at
 sub-put c = search rules
 
 put-requires : tie.Need-put-requires
 put-requires c κs = search rules
 
-same_length : tie.Need-same-length
+same_length : tie.Need-shape_of-work-then-own-eq0
 same_length c = search rules
 
-returns : tie.Need-returns
+returns : tie.Need-returns-then-own-eq0
 returns c =
     let s = c.before.before.before.before.before.before in
     let a = s.args in
     subst⁻¹ (λ (x : List ℤ). Readies a.room a.work.now x a.at a.words) c.before.put.ensures (opens_readies a.room a.work.now a.at a.words _ (shut_opens a.room a.work.now a.at s.requires.0 s.requires.2))
 
-slot-at-requires : tie.Need-slot-at-requires
+slot-at-requires : tie.Need-slot_at-place-requires
 slot-at-requires c κs = search rules
 
-same-length-2 : tie.Need-same-length-2
+same-length-2 : tie.Need-shape_of-work-then-place-ne0
 same-length-2 c = search rules
 
-returns-2 : tie.Need-returns-2
+returns-2 : tie.Need-returns-then-place-ne0
 returns-2 c =
     let s = c.before.before.before.before.before.before in
     let a = s.args in
-    slot_readies a.room a.work.now a.at a.words c.before.slot_at.result (slot_there a.room a.work.now a.at a.words c.before.slot_at.result c.if2.true c.before.slot_at.ensures)
+    slot_readies a.room a.work.now a.at a.words c.before.slot_at-place.result (slot_there a.room a.work.now a.at a.words c.before.slot_at-place.result c.if-place-ne0.true c.before.slot_at-place.ensures)
 
 larger-requires : tie.Need-larger-requires
 larger-requires c κs = search rules
 
-lay-out-requires : tie.Need-lay-out-requires
+lay-out-requires : tie.Need-lay_out-requires
 unfolding length_of
 lay-out-requires c κs =
     let n = c.before.before.before.before.before.before in
     let s = n.before.before in
-    let own = n.number_at.ensures in
+    let own = n.number_at-own.ensures in
     let l = c.larger.ensures in
     let long = s.requires.4 in
     (s.requires.0, s.requires.1, s.requires.2, ⊎_elim (λ e. omega (arith, e, own, long)) (λ e. omega (arith, e, s.requires.3)) l.2, omega (arith, l.0, own))
 
-same-length-3 : tie.Need-same-length-3
+same-length-3 : tie.Need-shape_of-work
 same-length-3 c = search rules
 
-returns-3 : tie.Need-returns-3
+returns-3 : tie.Need-returns
 returns-3 c =
     let s = c.before.before.before.before.before.before.before.before.before.before in
     let a = s.args in
-    opens_readies a.room a.work.now a.at a.words _ c.before.lay-out.ensures
+    opens_readies a.room a.work.now a.at a.words _ c.before.lay_out.ensures
 
 pub ready_spec : {M : Type 1} → statement M
-ready_spec =
-    tie.close
-    (tie.spec
+ready_spec = tie.close (tie.spec
     add-number-at
     number-at-requires
     add-put

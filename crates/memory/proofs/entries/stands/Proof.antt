@@ -9,47 +9,45 @@ use borrow.Author.Rules.{rules}
 use Rattle.memory.proofs.entries.stands.Statement.{statement}
 use Rattle.memory.proofs.entries.stands.Tie as tie
 
-number-at-requires : tie.Need-number-at-requires
+number-at-requires : tie.Need-number_at-count-requires
 number-at-requires c κs = search rules
 
-returns : tie.Need-returns
+returns : tie.Need-returns-then-count-configuration
 returns c = λ e. absurd (true≢false (sym e))
 
-add_start : tie.Need-overflow-add-start
+add_start : tie.Need-overflow_add-start
 add_start c = search rules
 
-add-end : tie.Need-overflow-add-end
+add-end : tie.Need-overflow_add-end
 add-end c = search rules
 
-mul-same-by-ends : tie.Need-overflow-mul-same-by-ends
+mul-same-by-ends : tie.Need-offset_bounds-work-start
 mul-same-by-ends c = search rules
 
-sub-same-by-ends : tie.Need-overflow-sub-same-by-ends
+sub-same-by-ends : tie.Need-slice_bounds-same_by_ends-count
 sub-same-by-ends c = search rules
 
-part-same-by-ends-start : tie.Need-slice-bounds-same-by-ends-start
+part-same-by-ends-start : tie.Need-slice_bounds-same_by_ends-start
 part-same-by-ends-start c = search rules
 
-part-same-by-ends-end : tie.Need-slice-bounds-same-by-ends-end
+part-same-by-ends-end : tie.Need-slice_bounds-same_by_ends-end
 part-same-by-ends-end c = search rules
 
-same-by-ends-requires : tie.Need-same-by-ends-requires
+same-by-ends-requires : tie.Need-same_by_ends-requires
 same-by-ends-requires c κs = search rules
 
-returns-2 : tie.Need-returns-2
+returns-2 : tie.Need-returns
 unfolding head_of
 returns-2 c =
     let b = c.before.before in
     let n = b.before in
     let a = n.before.args in
-    let k : n.number_at.result ≡ length a.configuration.now = b.if1.false in
-    let z : length a.configuration.now ≡ a.from + 1 + n.number_at.result - (a.from + 1) = omega arith in
-    λ e. (sym n.number_at.ensures ∙ k, ap (λ (m : ℕ). take m (drop (a.from + 1) a.work.now)) z ∙ c.same-by-ends.ensures.yes e)
+    let k : n.number_at-count.result ≡ length a.configuration.now = b.if-count-configuration.false in
+    let z : length a.configuration.now ≡ a.from + 1 + n.number_at-count.result - (a.from + 1) = omega arith in
+    λ e. (sym n.number_at-count.ensures ∙ k, ap (λ (m : ℕ). take m (drop (a.from + 1) a.work.now)) z ∙ c.same_by_ends.ensures.yes e)
 
 pub stands_spec : {M : Type 1} → statement M
-stands_spec =
-    tie.close
-    (tie.spec
+stands_spec = tie.close (tie.spec
     number-at-requires
     returns
     add_start

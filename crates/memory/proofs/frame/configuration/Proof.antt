@@ -8,22 +8,22 @@ use borrow.Author.Rules.{rules}
 use Rattle.memory.proofs.frame.configuration.Statement.{statement}
 use Rattle.memory.proofs.frame.configuration.Tie as tie
 
-length-at-requires : tie.Need-length-at-requires
+length-at-requires : tie.Need-length_at-requires
 length-at-requires c κs = search rules
 
-add-end : tie.Need-overflow-add-end
+add-end : tie.Need-overflow_add-end
 add-end c = search rules
 
-mul-result : tie.Need-overflow-mul-result
+mul-result : tie.Need-offset_bounds-work-at
 mul-result c = search rules
 
-sub-result : tie.Need-overflow-sub-result
+sub-result : tie.Need-slice_bounds-result-count
 sub-result c = search rules
 
-part-result-start : tie.Need-slice-bounds-result-start
+part-result-start : tie.Need-slice_bounds-result-start
 part-result-start c = search rules
 
-part-result-end : tie.Need-slice-bounds-result-end
+part-result-end : tie.Need-slice_bounds-result-end
 part-result-end c = search rules
 
 returns : tie.Need-returns
@@ -34,9 +34,7 @@ returns c =
     ap (λ (k : ℕ). take k (drop a.at a.work.now)) e
 
 pub configuration_spec : {M : Type 1} → statement M
-configuration_spec =
-    tie.close
-    (tie.spec
+configuration_spec = tie.close (tie.spec
     length-at-requires
     add-end
     mul-result

@@ -4,10 +4,10 @@ use borrow.Author.Rules.{rules}
 use Rattle.memory.proofs.frame.length_at.Statement.{statement}
 use Rattle.memory.proofs.frame.length_at.Tie as tie
 
-add-number-at : tie.Need-overflow-add-number-at
+add-number-at : tie.Need-overflow_add-at
 add-number-at c = search rules
 
-number-at-requires : tie.Need-number-at-requires
+number-at-requires : tie.Need-number_at-requires
 number-at-requires c κs = search rules
 
 returns : tie.Need-returns
@@ -15,4 +15,7 @@ unfolding length_of
 returns c = c.number_at.ensures
 
 pub length_at_spec : {M : Type 1} → statement M
-length_at_spec = tie.close (tie.spec add-number-at number-at-requires returns)
+length_at_spec = tie.close (tie.spec
+    add-number-at
+    number-at-requires
+    returns)

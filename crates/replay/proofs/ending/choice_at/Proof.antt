@@ -11,30 +11,34 @@ use borrow.Author.Rules.{rules}
 use Rattle.replay.proofs.ending.choice_at.Statement.{statement}
 use Rattle.replay.proofs.ending.choice_at.Tie as tie
 
-position-requires : tie.Need-position-requires
+position-requires : tie.Need-position-next-requires
 position-requires c κs = search rules
 
-sub-ordered : tie.Need-overflow-sub-ordered
+sub-ordered : tie.Need-overflow_sub-next
 sub-ordered c = search rules
 
-ordered-requires : tie.Need-ordered-requires
+ordered-requires : tie.Need-ordered-rule-requires
 ordered-requires c κs = search rules
 
 -- the position is in the order
-there : (c : tie.After-ordered) → c.before.position.result - 1 < length (order (table_of c.before.before.args.table.now))
-there c = let p = c.before.before.requires in omega (arith, c.before.position.ensures, p.1.1.some, p.1.1.within)
+there : (c : tie.After-ordered-rule) → c.before.position-next.result - 1 < length (order (table_of c.before.before.args.table.now))
+there c = let p = c.before.before.requires in omega (arith, c.before.position-next.ensures, p.1.1.some, p.1.1.within)
 
-is : (c : tie.After-ordered) → c.ordered.result ≡ get_or (order (table_of c.before.before.args.table.now)) (c.before.position.result - 1) 0
-is c = let s = c.before.before in ordered_is s.args.table.now s.args.index.now s.requires.0 (c.before.position.result - 1) c.ordered.result (there c) c.ordered.ensures
+is : (c : tie.After-ordered-rule) → c.ordered-rule.result ≡ get_or (order (table_of c.before.before.args.table.now)) (c.before.position-next.result - 1) 0
+is c = let s = c.before.before in ordered_is s.args.table.now s.args.index.now s.requires.0 (c.before.position-next.result - 1) c.ordered-rule.result (there c) c.ordered-rule.ensures
 
-cast-result : tie.Need-overflow-cast-result
-cast-result c = let s = c.before.before in omega (arith, is c, rule_small s.args.table.now s.args.index.now s.requires.0 (c.before.position.result - 1) (there c))
+cast-result : tie.Need-overflow_cast-result
+cast-result c = let s = c.before.before in omega (arith, is c, rule_small s.args.table.now s.args.index.now s.requires.0 (c.before.position-next.result - 1) (there c))
 
 returns : tie.Need-returns
 returns c =
     let s = c.before.before in
-    is c ∙ ap (λ (i : ℕ). get_or (order (table_of s.args.table.now)) i 0) (sub-one c.before.position.result ∙ ap pred c.before.position.ensures)
+    is c ∙ ap (λ (i : ℕ). get_or (order (table_of s.args.table.now)) i 0) (sub-one c.before.position-next.result ∙ ap pred c.before.position-next.ensures)
 
 pub choice_at_spec : {M : Type 1} → statement M
-choice_at_spec =
-    tie.close (tie.spec position-requires sub-ordered ordered-requires cast-result returns)
+choice_at_spec = tie.close (tie.spec
+    position-requires
+    sub-ordered
+    ordered-requires
+    cast-result
+    returns)

@@ -16,84 +16,82 @@ use Rattle.replay.proofs.ending.conclude.Tie as tie
 path : (f : Found) (k rules m room : ℕ) (work : List ℤ) → f ≡ Path k → FoundWithin f rules m room work → (k ≤ room) × ((i : ℕ) → i < m → Begun rules room work (base room i))
 path f k rules m room work e p = subst (λ (x : Found). FoundWithin x rules m room work) e p
 
-base-at-requires : tie.Need-base-at-requires
+base-at-requires : tie.Need-base_at-at-requires
 base-at-requires c κs = search rules
 
-enum-known-found : tie.Need-enum-known-found
+enum-known-found : tie.Need-enum_known-found
 enum-known-found c = search rules
 
-write-choices-requires : tie.Need-write-choices-requires
+write-choices-requires : tie.Need-write_choices-requires
 write-choices-requires c κs =
     let g = c.before.before.before in
     let s = g.before.before.before.before in
     let p = s.requires in
-    (p.0, ((p.1.0.3, omega (arith, p.1.0), p.1.0.2), (path s.args.found g.found.given.0.0 _ s.args.actions s.args.room s.args.work.now g.found.given.1 p.1.1).1))
+    (p.0, ((p.1.0.3, omega (arith, p.1.0), p.1.0.2), (path s.args.found g.found-1.given.0.0 _ s.args.actions s.args.room s.args.work.now g.found-1.given.1 p.1.1).1))
 
-give-back-requires : tie.Need-give-back-requires
+give-back-requires : tie.Need-give_back-requires
 give-back-requires c κs =
     let g = c.before.before.before.before.before.before.before.before in
     let s = g.before.before.before.before in
     let p = s.requires in
-    (omega (arith, p.1.0, g.before.before.base-at.ensures), p.1.0.1, (path s.args.found g.found.given.0.0 _ s.args.actions s.args.room s.args.work.now g.found.given.1 p.1.1).0)
+    (omega (arith, p.1.0, g.before.before.base_at-at.ensures), p.1.0.1, (path s.args.found g.found-1.given.0.0 _ s.args.actions s.args.room s.args.work.now g.found-1.given.1 p.1.1).0)
 
-enum_told : tie.Need-enum-told
+enum_told : tie.Need-enum_told-1
 enum_told c = search rules
 
-give-back-requires-2 : tie.Need-give-back-requires-2
+give-back-requires-2 : tie.Need-give_back-requires-in-Over
 give-back-requires-2 c κs = search rules
 
-enum-told-2 : tie.Need-enum-told-2
+enum-told-2 : tie.Need-enum_told-in-Nothing
 enum-told-2 c = search rules
 
-give-back-requires-3 : tie.Need-give-back-requires-3
+give-back-requires-3 : tie.Need-give_back-requires-in-Nothing
 give-back-requires-3 c κs = search rules
 
-same_length : tie.Need-same-length
+same_length : tie.Need-shape_of-out-in-Path
 same_length c = search rules
 
-same-length-2 : tie.Need-same-length-2
+same-length-2 : tie.Need-shape_of-choices
 same-length-2 c = search rules
 
-same-length-3 : tie.Need-same-length-3
+same-length-3 : tie.Need-shape_of-work-in-Path
 same-length-3 c = search rules
 
-returns : tie.Need-returns
+returns : tie.Need-returns-in-Path
 returns c =
     let g = c.before.before.before.before.before.before.before.before.before.before.before in
-    let b = c.before.before.give-back.ensures in
-    let at = g.before.before.base-at.ensures in
-    rw g.found.given.1 (record { answer = refl; leaves = rw at at b.0; leaves_choices_lem = c.before.before.before.before.before.before.before.write-choices.ensures; leaves_work_lem = rw at at b.1 })
+    let b = c.before.before.give_back.ensures in
+    let at = g.before.before.base_at-at.ensures in
+    rw g.found-1.given.1 (record { answer = refl; leaves = rw at at b.0; leaves_choices_lem = c.before.before.before.before.before.before.before.write_choices.ensures; leaves_work_lem = rw at at b.1 })
 
-same-length-4 : tie.Need-same-length-4
+same-length-4 : tie.Need-shape_of-out-in-Over
 same-length-4 c = search rules
 
-same-length-5 : tie.Need-same-length-5
+same-length-5 : tie.Need-shape_of-work-in-Over
 same-length-5 c = search rules
 
-returns-2 : tie.Need-returns-2
+returns-2 : tie.Need-returns-in-Over
 returns-2 c =
     let g = c.before.before.before.before.before in
-    let b = c.before.before.give-back2.ensures in
-    let at = g.before.before.base-at.ensures in
-    rw g.enum_told.given.1 (record { answer = refl; leaves = rw at at b.0; leaves_choices_lem = refl; leaves_work_lem = rw at at b.1 })
+    let b = c.before.before.give_back-in-Over.ensures in
+    let at = g.before.before.base_at-at.ensures in
+    rw g.enum_told-1.given.1 (record { answer = refl; leaves = rw at at b.0; leaves_choices_lem = refl; leaves_work_lem = rw at at b.1 })
 
-same-length-6 : tie.Need-same-length-6
+same-length-6 : tie.Need-shape_of-out-in-Nothing
 same-length-6 c = search rules
 
-same-length-7 : tie.Need-same-length-7
+same-length-7 : tie.Need-shape_of-work-in-Nothing
 same-length-7 c = search rules
 
-returns-3 : tie.Need-returns-3
+returns-3 : tie.Need-returns-in-Nothing
 returns-3 c =
     let g = c.before.before.before.before.before in
-    let b = c.before.before.give-back3.ensures in
-    let at = g.before.before.base-at.ensures in
-    rw g.enum-told2.given.1 (record { answer = refl; leaves = rw at at b.0; leaves_choices_lem = refl; leaves_work_lem = rw at at b.1 })
+    let b = c.before.before.give_back-in-Nothing.ensures in
+    let at = g.before.before.base_at-at.ensures in
+    rw g.enum_told-in-Nothing-1.given.1 (record { answer = refl; leaves = rw at at b.0; leaves_choices_lem = refl; leaves_work_lem = rw at at b.1 })
 
 pub conclude_spec : {M : Type 1} → statement M
-conclude_spec =
-    tie.close
-    (tie.spec
+conclude_spec = tie.close (tie.spec
     base-at-requires
     enum-known-found
     write-choices-requires

@@ -24,37 +24,37 @@ restore_is room k at out work h q =
     ∙ append_assoc (take k out) (take (length p) p) (drop (k + length p) out)
     ∙ ap₂ (λ (a : List ℤ) (m : ℕ). take k out ++ (a ++ drop m out)) (take-length p) y
 
-add-from : tie.Need-overflow-add-from
+add-from : tie.Need-overflow_add-from
 add-from c = search rules
 
-add-to : tie.Need-overflow-add-to
+add-to : tie.Need-overflow_add-to
 add-to c = search rules
 
-mul-copy : tie.Need-overflow-mul-copy
+mul-copy : tie.Need-offset_bounds-work-from
 mul-copy c = search rules
 
-sub-copy : tie.Need-overflow-sub-copy
+sub-copy : tie.Need-slice_bounds-copy-count
 sub-copy c = search rules
 
-part-copy-start : tie.Need-slice-bounds-copy-start
+part-copy-start : tie.Need-slice_bounds-copy-start
 part-copy-start c = search rules
 
-part-copy-end : tie.Need-slice-bounds-copy-end
+part-copy-end : tie.Need-slice_bounds-copy-end
 part-copy-end c = search rules
 
 copy-requires : tie.Need-copy-requires
 copy-requires c κs = search rules
 
-add-end : tie.Need-overflow-add-end
+add-end : tie.Need-overflow_add-end
 add-end c = search rules
 
-add-end-2 : tie.Need-overflow-add-end-2
+add-end-2 : tie.Need-overflow_add-end-2
 add-end-2 c = search rules
 
-slice-relend-prefix-clear : tie.Need-slice-relend-prefix-clear
+slice-relend-prefix-clear : tie.Need-slice_bounds-clear-end
 slice-relend-prefix-clear c = search rules
 
-slice-aggregate-clear : tie.Need-slice-aggregate-clear
+slice-aggregate-clear : tie.Need-slice_bounds-clear-end-2
 slice-aggregate-clear c =
     let s = c.before.before.before.before.before.before in
     sym (length-take-le (s.args.at + (s.args.room + 2)) s.args.work.now s.requires.0)
@@ -62,10 +62,10 @@ slice-aggregate-clear c =
 clear-requires : tie.Need-clear-requires
 clear-requires c κs = search rules
 
-same_length : tie.Need-same-length
+same_length : tie.Need-shape_of-out
 same_length c = search rules
 
-same-length-2 : tie.Need-same-length-2
+same-length-2 : tie.Need-shape_of-work
 same-length-2 c = search rules
 
 returns : tie.Need-returns
@@ -76,9 +76,7 @@ returns c =
     (q.copy.ensures ∙ restore_is a.room a.words a.at a.out.now a.work.now s.requires.2 (omega (arith, s.requires)), zeros_front (a.at + (a.room + 2)) a.work.now _ s.requires.0 c.before.clear.ensures)
 
 pub give_back_spec : {M : Type 1} → statement M
-give_back_spec =
-    tie.close
-    (tie.spec
+give_back_spec = tie.close (tie.spec
     add-from
     add-to
     mul-copy

@@ -17,32 +17,32 @@ fits s =
     let a = s.args in
     frame_fits a.table.now a.index.now a.rules a.room a.log.now a.out.now a.work.now a.depth s.requires.0 s.requires.1.0.0 s.requires.1.1.1
 
-base-at-requires : tie.Need-base-at-requires
+base-at-requires : tie.Need-base_at-at-requires
 base-at-requires c κs = (c.before.requires.0.narrow, omega (arith, fits c.before))
 
-try-at-requires : tie.Need-try-at-requires
+try-at-requires : tie.Need-try_at-answer-requires
 try-at-requires c κs =
     let b = c.before.before in
     let s = b.before.before in
     let a = s.args in
     let p = s.requires in (
-      (omega (arith, fits s, b.base-at.ensures), p.0.out_fits, omega (arith, p.1.0.1, p.0.rules_are)),
-      (p.0.indexed, rw (b.base-at.ensures, ← p.0.rules_are) (p.1.1.1.frames a.depth (omega arith))),
+      (omega (arith, fits s, b.base_at-at.ensures), p.0.out_fits, omega (arith, p.1.0.1, p.0.rules_are)),
+      (p.0.indexed, rw (b.base_at-at.ensures, ← p.0.rules_are) (p.1.1.1.frames a.depth (omega arith))),
     )
 
-add-set-position : tie.Need-overflow-add-set-position
+add-set-position : tie.Need-overflow_add-position
 add-set-position c = search rules
 
-set-position-requires : tie.Need-set-position-requires
+set-position-requires : tie.Need-set_position-requires
 set-position-requires c κs =
     let b = c.before.before.before.before.before in
     let s = b.before.before in
-    (omega (arith, fits s, b.base-at.ensures), omega (arith, s.requires.1.0.1, s.requires.0.few))
+    (omega (arith, fits s, b.base_at-at.ensures), omega (arith, s.requires.1.0.1, s.requires.0.few))
 
 -- what `try_at` answers and leaves, at the frame's place
-tried : (c : tie.After-try-at) → let a = c.before.before.before.before.before.args in
-    TryContract a.table.now (words_of a.room a.work.now (base a.room a.depth)) (get_or (order (table_of a.table.now)) a.position 0) a.room a.out.now c.try-at.new.1.1.1.1.1.0 c.try-at.result
-tried c = rw c.before.before.before.base-at.ensures at c.try-at.ensures
+tried : (c : tie.After-try_at-answer) → let a = c.before.before.before.before.before.args in
+    TryContract a.table.now (words_of a.room a.work.now (base a.room a.depth)) (get_or (order (table_of a.table.now)) a.position 0) a.room a.out.now c.try_at-answer.new.1.1.1.1.1.0 c.try_at-answer.result
+tried c = rw c.before.before.before.base_at-at.ensures at c.try_at-answer.ensures
 
 settle-requires : tie.Need-settle-requires
 settle-requires c κs =
@@ -50,19 +50,19 @@ settle-requires c κs =
     let s = k.before.before.before.before.before in
     let a = s.args in
     let p = s.requires in
-    let e : length c.before.before.before.set-position.new.0 ≡ length a.work.now = c.before.before.before.set-position.auto.0 in (
+    let e : length c.before.before.before.set_position.new.0 ≡ length a.work.now = c.before.before.before.set_position.auto.0 in (
       (p.1.0.0, omega (arith, e, p.0.work_fits), p.0.narrow),
       (
         made_within a.table.now a.index.now a.rules a.room a.log.now a.out.now a.work.now a.depth p.0 p.1.0.0 p.1.1.1 a.position p.1.1.0 p.1.0.1
-            k.try-at.new.1.1.1.1.1.0 k.try-at.result (tried k),
-        rw (c.before.before.before.set-position.ensures, k.before.before.before.base-at.ensures) (spare_within a.table.now a.index.now a.rules a.room a.log.now a.out.now a.work.now a.depth p.0 p.1.0.0 p.1.1.1 a.position p.1.1.0 p.1.0.1),
+            k.try_at-answer.new.1.1.1.1.1.0 k.try_at-answer.result (tried k),
+        rw (c.before.before.before.set_position.ensures, k.before.before.before.base_at-at.ensures) (spare_within a.table.now a.index.now a.rules a.room a.log.now a.out.now a.work.now a.depth p.0 p.1.0.0 p.1.1.1 a.position p.1.1.0 p.1.0.1),
       ),
     )
 
-same_length : tie.Need-same-length
+same_length : tie.Need-shape_of-out
 same_length c = search rules
 
-same-length-2 : tie.Need-same-length-2
+same-length-2 : tie.Need-shape_of-work
 same-length-2 c = search rules
 
 returns : tie.Need-returns
@@ -72,12 +72,10 @@ returns c =
     let a = s.args in
     let p = s.requires in
     turned a.table.now a.index.now a.rules a.room a.log.now a.out.now a.work.now a.depth p.0 p.1.0.0 p.1.1.1 a.position p.1.1.0 p.1.0.1
-    k.try-at.new.1.1.1.1.1.0 k.try-at.result (tried k) a.remember _ _ (rw (c.before.before.before.before.before.set-position.ensures, k.before.before.before.base-at.ensures) at c.before.settle.ensures)
+    k.try_at-answer.new.1.1.1.1.1.0 k.try_at-answer.result (tried k) a.remember _ _ (rw (c.before.before.before.before.before.set_position.ensures, k.before.before.before.base_at-at.ensures) at c.before.settle.ensures)
 
 pub go_on_spec : {M : Type 1} → statement M
-go_on_spec =
-    tie.close
-    (tie.spec
+go_on_spec = tie.close (tie.spec
     base-at-requires
     try-at-requires
     add-set-position

@@ -16,24 +16,24 @@ use Rattle.step.proofs.right.piece.Statement.{statement}
 use Rattle.step.proofs.right.piece.Tie as tie
 
 -- at a variable: its tag; its number, which is below 16
-module _ (c : tie.After-word2) where
+module _ (c : tie.After-word-v) where
   abbrev start : tie.Start
   start = c.before.before.before
 
   abbrev v : ℕ
-  v = nat_abs (to_z w64 (of_z w64 c.word2.result))
+  v = nat_abs (to_z w64 (of_z w64 c.word-v.result))
 
   three : word start.args.table.now start.args.at ≡ pos 3
   three =
       let w = c.before.before.word in
       let f : SFits w64 w.result = search rules in
-      sym w.ensures ∙ same_bits w.result (pos 3) f (record { sfits = lit< tt }) c.before.if1.true
+      sym w.ensures ∙ same_bits w.result (pos 3) f (record { sfits = lit< tt }) c.before.if-word-eq-VARIABLE.true
 
-  datum : to_z w64 (of_z w64 c.word2.result) ≡ word start.args.table.now (start.args.at + 1)
+  datum : to_z w64 (of_z w64 c.word-v.result) ≡ word start.args.table.now (start.args.at + 1)
   datum =
-      let d = c.word2.result in
+      let d = c.word-v.result in
       let f : SFits w64 d = search rules in
-      to_z-of_z w64 d f ∙ c.word2.ensures
+      to_z-of_z w64 d f ∙ c.word-v.ensures
 
   low : T (non_neg (word start.args.table.now (start.args.at + 1))) × (v < 16)
   low = variable_fits start.args.table.now start.args.starts.now start.args.ends.now start.args.at three v (ap nat_abs datum) start.pre
@@ -41,46 +41,44 @@ module _ (c : tie.After-word2) where
 word-requires : tie.Need-word-requires
 word-requires c κs = omega (arith, piece_within c.args.table.now c.args.starts.now c.args.ends.now c.args.at c.requires)
 
-add-word : tie.Need-overflow-add-word
+add-word : tie.Need-overflow_add-at
 add-word c = search rules
 
-word-requires-2 : tie.Need-word-requires-2
+word-requires-2 : tie.Need-word-v-requires
 word-requires-2 c κs = let s = c.before.before in omega (arith, piece_within s.args.table.now s.args.starts.now s.args.ends.now s.args.at s.requires)
 
-cast-v : tie.Need-overflow-cast-v
+cast-v : tie.Need-overflow_cast-v
 cast-v c = (subst⁻¹ (λ (y : ℤ). T (non_neg y)) (datum c) (low c).0, record { fits = omega (arith, (low c).1) })
 
-place-of-requires : tie.Need-place-of-requires
+place-of-requires : tie.Need-place_of-from-requires
 place-of-requires c κs = (low c).1
 
-place-of-requires-2 : tie.Need-place-of-requires-2
+place-of-requires-2 : tie.Need-place_of-to-requires
 place-of-requires-2 c κs = (low c.before).1
 
-add-t11 : tie.Need-overflow-add-t11
+add-t11 : tie.Need-overflow_add-result
 add-t11 c = search rules
 
-returns : tie.Need-returns
+returns : tie.Need-returns-then-word-eq-VARIABLE
 returns c =
     let w = c.before.before in
     let s = start w in
-    rw (c.before.place_of.ensures, c.place-of2.ensures) (variable_is s.args.table.now s.args.starts.now s.args.ends.now s.args.at (three w) (v w) (ap nat_abs (datum w)))
+    rw (c.before.place_of-from.ensures, c.place_of-to.ensures) (variable_is s.args.table.now s.args.starts.now s.args.ends.now s.args.at (three w) (v w) (ap nat_abs (datum w)))
 
-add-t13 : tie.Need-overflow-add-t13
+add-t13 : tie.Need-overflow_add-result-2
 add-t13 c = search rules
 
-add-t15 : tie.Need-overflow-add-t15
+add-t15 : tie.Need-overflow_add-result-3
 add-t15 c = search rules
 
-returns-2 : tie.Need-returns-2
+returns-2 : tie.Need-returns
 returns-2 c =
     let w = c.before in
     let s = w.before in
-    node_is s.args.table.now s.args.starts.now s.args.ends.now s.args.at (λ e. c.if1.false (ap (of_z w64) (w.word.ensures ∙ e))) s.requires.no_call
+    node_is s.args.table.now s.args.starts.now s.args.ends.now s.args.at (λ e. c.if-word-eq-VARIABLE.false (ap (of_z w64) (w.word.ensures ∙ e))) s.requires.no_call
 
 pub piece_spec : {M : Type 1} → statement M
-piece_spec =
-    tie.close
-    (tie.spec
+piece_spec = tie.close (tie.spec
     word-requires
     add-word
     word-requires-2

@@ -4,31 +4,29 @@ use Rattle.step.proofs.RightLaw.{node_within}
 use Rattle.step.proofs.right.write_item.Statement.{statement}
 use Rattle.step.proofs.right.write_item.Tie as tie
 
-is-update-requires : tie.Need-is-update-requires
+is-update-requires : tie.Need-is_update-requires
 is-update-requires c κs = node_within c.requires.before c.requires.rest
 
-write-update-requires : tie.Need-write-update-requires
-write-update-requires c κs = let u = c.before.before in (u.before.requires, u.is-update.ensures.yes c.before.if1.true)
+write-update-requires : tie.Need-write_update-requires
+write-update-requires c κs = let u = c.before.before in (u.before.requires, u.is_update.ensures.yes c.before.if-is_update.true)
 
-same_length : tie.Need-same-length
+same_length : tie.Need-shape_of-out-then-is_update
 same_length c = search rules
 
-returns : tie.Need-returns
+returns : tie.Need-returns-then-is_update
 returns c = search rules
 
-write-value-requires : tie.Need-write-value-requires
-write-value-requires c κs = let u = c.before.before in (u.before.requires, record { not = u.is-update.ensures.no c.before.if1.false })
+write-value-requires : tie.Need-write_value-requires
+write-value-requires c κs = let u = c.before.before in (u.before.requires, record { not = u.is_update.ensures.no c.before.if-is_update.false })
 
-same-length-2 : tie.Need-same-length-2
+same-length-2 : tie.Need-shape_of-out
 same-length-2 c = search rules
 
-returns-2 : tie.Need-returns-2
+returns-2 : tie.Need-returns
 returns-2 c = search rules
 
 pub write_item_spec : {M : Type 1} → statement M
-write_item_spec =
-    tie.close
-    (tie.spec
+write_item_spec = tie.close (tie.spec
     is-update-requires
     write-update-requires
     same_length

@@ -7,49 +7,47 @@ use Rattle.step.proofs.RightLoopLaw.{Writing, writing_first, all_written, writin
 use Rattle.step.proofs.right.write_right.Statement.{statement}
 use Rattle.step.proofs.right.write_right.Tie as tie
 
-abbrev invariant-loop : tie.invariant-loop
+abbrev invariant-loop : tie.invariant-loop-i
 invariant-loop table configuration at end starts ends out₀ i₀ o₀ out i o = (length out ≡ length out₀) × Writing table configuration starts ends at end out₀ i o out
 
-abbrev decreases-loop : tie.decreases-loop
+abbrev decreases-loop : tie.decreases-loop-i
 decreases-loop table configuration at end starts ends out₀ i₀ o₀ out i o = end - i
 
-loop-holds : tie.Need-loop-init invariant-loop decreases-loop
+loop-holds : tie.Need-loop-i-init invariant-loop decreases-loop
 loop-holds c = (refl, writing_first c.args.table.now c.args.configuration.now c.args.starts.now c.args.ends.now c.args.at c.args.end c.args.out.now)
 
-write-item-requires : tie.Need-write-item-requires invariant-loop decreases-loop
+write-item-requires : tie.Need-write_item-x-requires invariant-loop decreases-loop
 write-item-requires c κs =
     let l = c.before.before in
     let s = l.before in
-    let k = writing_fits s.args.table.now s.args.configuration.now s.args.starts.now s.args.ends.now s.args.at s.args.end s.args.out.now l.loop.i l.loop.o l.loop.out l.loop.invariant.1 s.requires c.before.loop-test.true in
-    subst⁻¹ (λ (n : ℕ). FittingItem s.args.table.now s.args.configuration.now s.args.starts.now s.args.ends.now l.loop.i s.args.end l.loop.o n) l.loop.invariant.0 k
+    let k = writing_fits s.args.table.now s.args.configuration.now s.args.starts.now s.args.ends.now s.args.at s.args.end s.args.out.now l.loop-i.i l.loop-i.o l.loop-i.out l.loop-i.invariant.1 s.requires c.before.loop-i-test.true in
+    subst⁻¹ (λ (n : ℕ). FittingItem s.args.table.now s.args.configuration.now s.args.starts.now s.args.ends.now l.loop-i.i s.args.end l.loop-i.o n) l.loop-i.invariant.0 k
 
-loop-less : tie.Need-loop-smaller invariant-loop decreases-loop
+loop-less : tie.Need-loop-i-smaller invariant-loop decreases-loop
 loop-less c =
     let x = c.before.before.before in
     let l = x.before in
     let s = l.before in
-    omega (arith, x.loop-test.true, writing_forward s.args.table.now s.args.configuration.now s.args.starts.now s.args.ends.now s.args.at s.args.end s.args.out.now l.loop.i l.loop.o l.loop.out l.loop.invariant.1 _ _ c.before.write-item.ensures.item s.requires.rest)
+    omega (arith, x.loop-i-test.true, writing_forward s.args.table.now s.args.configuration.now s.args.starts.now s.args.ends.now s.args.at s.args.end s.args.out.now l.loop-i.i l.loop-i.o l.loop-i.out l.loop-i.invariant.1 _ _ c.before.write_item-x.ensures.item s.requires.rest)
 
-loop-again : tie.Need-loop-preserved invariant-loop decreases-loop
+loop-again : tie.Need-loop-i-preserved invariant-loop decreases-loop
 loop-again c =
     let w = c.before.write-item in
     let l = c.before.before.before.before in
     let s = l.before in
-    (w.auto.1.1.1.1.1.1.0 ∙ l.loop.invariant.0, writing_on s.args.table.now s.args.configuration.now s.args.starts.now s.args.ends.now s.args.at s.args.end s.args.out.now l.loop.i l.loop.o l.loop.out l.loop.invariant.1 _ _ w.ensures.item w.result.place w.new.1.1.1.1.1.1.0 w.ensures.puts.leaves w.ensures.puts.next)
+    (w.auto.1.1.1.1.1.1.0 ∙ l.loop-i.invariant.0, writing_on s.args.table.now s.args.configuration.now s.args.starts.now s.args.ends.now s.args.at s.args.end s.args.out.now l.loop-i.i l.loop-i.o l.loop-i.out l.loop-i.invariant.1 _ _ w.ensures.item w.result.place w.new.1.1.1.1.1.1.0 w.ensures.puts.leaves w.ensures.puts.next)
 
-same_length : tie.Need-same-length invariant-loop decreases-loop
-same_length c = c.before.loop.invariant.0
+same_length : tie.Need-shape_of-out invariant-loop decreases-loop
+same_length c = c.before.loop-i.invariant.0
 
 returns : tie.Need-returns invariant-loop decreases-loop
 returns c =
     let l = c.before in
     let s = l.before in
-    all_written s.args.table.now s.args.configuration.now s.args.starts.now s.args.ends.now s.args.at s.args.end s.args.out.now l.loop.i l.loop.o l.loop.out l.loop.invariant.1 c.loop-test.false
+    all_written s.args.table.now s.args.configuration.now s.args.starts.now s.args.ends.now s.args.at s.args.end s.args.out.now l.loop-i.i l.loop-i.o l.loop-i.out l.loop-i.invariant.1 c.loop-i-test.false
 
 pub write_right_spec : {M : Type 1} → statement M
-write_right_spec =
-    tie.close
-    (tie.spec
+write_right_spec = tie.close (tie.spec
     invariant-loop
     decreases-loop
     loop-holds

@@ -9,24 +9,24 @@ use Rattle.step.proofs.UpdateLaw.{parts_values, parts_words, parts_room}
 use Rattle.step.proofs.right.write_update.Statement.{statement}
 use Rattle.step.proofs.right.write_update.Tie as tie
 
-update-parts-requires : tie.Need-update-parts-requires
+update-parts-requires : tie.Need-update_parts-p-requires
 update-parts-requires c κs = (c.requires.0.rest, c.requires.0.before, c.requires.1)
 
-plan-of-requires : tie.Need-plan-of-requires
+plan-of-requires : tie.Need-plan_of-plan-requires
 plan-of-requires c κs =
     let s = c.before in
-    let q = parts_values s.args.table.now s.args.configuration.now s.args.starts.now s.args.ends.now s.args.at s.args.end c.update-parts.result c.update-parts.ensures s.requires.0.rest in
+    let q = parts_values s.args.table.now s.args.configuration.now s.args.starts.now s.args.ends.now s.args.at s.args.end c.update_parts-p.result c.update_parts-p.ensures s.requires.0.rest in
     (q.0, q.1)
 
-put-plan-requires : tie.Need-put-plan-requires
+put-plan-requires : tie.Need-put_plan-e-requires
 put-plan-requires c κs =
     let g = c.before in
     let u = g.before in
     let s = u.before in
-    let q = parts_values s.args.table.now s.args.configuration.now s.args.starts.now s.args.ends.now s.args.at s.args.end u.update-parts.result u.update-parts.ensures s.requires.0.rest in
-    (q.0, q.2, g.plan-of.ensures.fits, parts_room s.args.table.now s.args.configuration.now s.args.starts.now s.args.ends.now s.args.at s.args.end u.update-parts.result u.update-parts.ensures (plan_words (value_words s.args.table.now s.args.configuration.now u.update-parts.result.dictionary) g.plan-of.result (value_words s.args.table.now s.args.configuration.now u.update-parts.result.term)) (λ a b t x y z. g.plan-of.ensures.is a b t x y ∙ ap (λ (vs : List ℤ). plan_words (value_words s.args.table.now s.args.configuration.now u.update-parts.result.dictionary) g.plan-of.result vs) (sym z.words)) _ _ s.requires.0)
+    let q = parts_values s.args.table.now s.args.configuration.now s.args.starts.now s.args.ends.now s.args.at s.args.end u.update_parts-p.result u.update_parts-p.ensures s.requires.0.rest in
+    (q.0, q.2, g.plan_of-plan.ensures.fits, parts_room s.args.table.now s.args.configuration.now s.args.starts.now s.args.ends.now s.args.at s.args.end u.update_parts-p.result u.update_parts-p.ensures (plan_words (value_words s.args.table.now s.args.configuration.now u.update_parts-p.result.dictionary) g.plan_of-plan.result (value_words s.args.table.now s.args.configuration.now u.update_parts-p.result.term)) (λ a b t x y z. g.plan_of-plan.ensures.is a b t x y ∙ ap (λ (vs : List ℤ). plan_words (value_words s.args.table.now s.args.configuration.now u.update_parts-p.result.dictionary) g.plan_of-plan.result vs) (sym z.words)) _ _ s.requires.0)
 
-same_length : tie.Need-same-length
+same_length : tie.Need-shape_of-out
 same_length c = search rules
 
 returns : tie.Need-returns
@@ -34,9 +34,12 @@ returns c =
     let g = c.before.before.before in
     let u = g.before in
     let s = u.before in
-    record { words = _; item = parts_words s.args.table.now s.args.configuration.now s.args.starts.now s.args.ends.now s.args.at s.args.end u.update-parts.result u.update-parts.ensures (plan_words (value_words s.args.table.now s.args.configuration.now u.update-parts.result.dictionary) g.plan-of.result (value_words s.args.table.now s.args.configuration.now u.update-parts.result.term)) (λ a b t x y z. g.plan-of.ensures.is a b t x y ∙ ap (λ (vs : List ℤ). plan_words (value_words s.args.table.now s.args.configuration.now u.update-parts.result.dictionary) g.plan-of.result vs) (sym z.words)); puts = c.before.put-plan.ensures }
+    record { words = _; item = parts_words s.args.table.now s.args.configuration.now s.args.starts.now s.args.ends.now s.args.at s.args.end u.update_parts-p.result u.update_parts-p.ensures (plan_words (value_words s.args.table.now s.args.configuration.now u.update_parts-p.result.dictionary) g.plan_of-plan.result (value_words s.args.table.now s.args.configuration.now u.update_parts-p.result.term)) (λ a b t x y z. g.plan_of-plan.ensures.is a b t x y ∙ ap (λ (vs : List ℤ). plan_words (value_words s.args.table.now s.args.configuration.now u.update_parts-p.result.dictionary) g.plan_of-plan.result vs) (sym z.words)); puts = c.before.put_plan-e.ensures }
 
 pub write_update_spec : {M : Type 1} → statement M
-write_update_spec =
-    tie.close
-    (tie.spec update-parts-requires plan-of-requires put-plan-requires same_length returns)
+write_update_spec = tie.close (tie.spec
+    update-parts-requires
+    plan-of-requires
+    put-plan-requires
+    same_length
+    returns)

@@ -18,117 +18,115 @@ use Rattle.step.proofs.right.write_value.Statement.{statement}
 use Rattle.step.proofs.right.write_value.Tie as tie
 
 -- the tag is a call's
-four : (c : tie.Then1) → word c.before.before.args.table.now c.before.before.args.at ≡ pos 4
+four : (c : tie.Then-tag-eq-CALL) → word c.before.before.args.table.now c.before.before.args.at ≡ pos 4
 four c =
     let w = c.before.word in
     let f : SFits w64 w.result = search rules in
-    sym w.ensures ∙ same_bits w.result (pos 4) f (record { sfits = lit< tt }) c.if1.true
+    sym w.ensures ∙ same_bits w.result (pos 4) f (record { sfits = lit< tt }) c.if-tag-eq-CALL.true
 
-word-requires : tie.Need-word-requires
+word-requires : tie.Need-word-tag-requires
 word-requires c κs = omega (arith, node_within c.requires.0.before c.requires.0.rest)
 
-is-short-call-requires : tie.Need-is-short-call-requires
+is-short-call-requires : tie.Need-is_short_call-requires
 is-short-call-requires c κs =
     let s = c.before.before in
     record { config = _; starts = _; ends = _; call = call_needs s.args.table.now s.args.configuration.now s.args.starts.now s.args.ends.now s.args.at s.args.end s.requires.0.before (four c) s.requires.1 s.requires.0.rest }
 
-short-call-requires : tie.Need-short-call-requires
+short-call-requires : tie.Need-short_call-r-requires
 short-call-requires c κs =
     let t = c.before.before in
     let s = t.before.before in
-    record { ends = _; call = call_needs s.args.table.now s.args.configuration.now s.args.starts.now s.args.ends.now s.args.at s.args.end s.requires.0.before (four t) s.requires.1 s.requires.0.rest; short = c.before.is-short-call.ensures c.if2.true }
+    record { ends = _; call = call_needs s.args.table.now s.args.configuration.now s.args.starts.now s.args.ends.now s.args.at s.args.end s.requires.0.before (four t) s.requires.1 s.requires.0.rest; short = c.before.is_short_call.ensures c.if-is_short_call.true }
 
 -- what a short call gives is the item that its contract says
-short_item : (c : tie.After-given) → let s = c.before.before.before.before.before.before in ItemIs s.args.table.now s.args.configuration.now s.args.starts.now s.args.ends.now s.args.at s.args.end (record { value = c.given.result; next = s.args.at + 6 })
+short_item : (c : tie.After-given-v) → let s = c.before.before.before.before.before.before in ItemIs s.args.table.now s.args.configuration.now s.args.starts.now s.args.ends.now s.args.at s.args.end (record { value = c.given-v.result; next = s.args.at + 6 })
 short_item c =
     let t = c.before.before.before.before in
     let s = t.before.before in
-    subst⁻¹ (λ (v : Value). ItemIs s.args.table.now s.args.configuration.now s.args.starts.now s.args.ends.now s.args.at s.args.end (record { value = v; next = s.args.at + 6 })) c.given.ensures
-    (evaluated_is s.args.table.now s.args.configuration.now s.args.starts.now s.args.ends.now s.args.at s.args.end s.requires.0.before (four t) s.requires.1 _ (c.before.short-call.ensures.over s.args.ends.now))
+    subst⁻¹ (λ (v : Value). ItemIs s.args.table.now s.args.configuration.now s.args.starts.now s.args.ends.now s.args.at s.args.end (record { value = v; next = s.args.at + 6 })) c.given-v.ensures
+    (evaluated_is s.args.table.now s.args.configuration.now s.args.starts.now s.args.ends.now s.args.at s.args.end s.requires.0.before (four t) s.requires.1 _ (c.before.short_call-r.ensures.over s.args.ends.now))
 
-given-requires : tie.Need-given-requires
+given-requires : tie.Need-given-v-requires
 given-requires c κs = tt
 
-put-requires : tie.Need-put-requires
+put-requires : tie.Need-put-e-requires
 put-requires c κs =
     let d = c.before in
     let s = d.before.before.before.before.before.before in
     item_room s.args.table.now s.args.configuration.now s.args.starts.now s.args.ends.now s.args.at s.args.end s.requires.0.before _ (short_item d) _ _ s.requires.0
 
-add-t22 : tie.Need-overflow-add-t22
+add-t22 : tie.Need-overflow_add-result
 add-t22 c =
     let d = c.before.before.before in
     let s = d.before.before.before.before.before.before in
     let h = item_ends s.args.table.now s.args.configuration.now s.args.starts.now s.args.ends.now s.args.at s.args.end s.requires.0.before _ (short_item d) _ _ s.requires.0 in
     omega arith
 
-same_length : tie.Need-same-length
+same_length : tie.Need-shape_of-out-then-is_short_call
 same_length c = search rules
 
-returns : tie.Need-returns
+returns : tie.Need-returns-then-is_short_call
 returns c =
     let d = c.before.before.before in
     let s = d.before.before.before.before.before.before in
-    record { words = _; item = item_words s.args.table.now s.args.configuration.now s.args.starts.now s.args.ends.now s.args.at s.args.end s.requires.0.before _ (short_item d); puts = c.before.put.ensures }
+    record { words = _; item = item_words s.args.table.now s.args.configuration.now s.args.starts.now s.args.ends.now s.args.at s.args.end s.requires.0.before _ (short_item d); puts = c.before.put-e.ensures }
 
 -- a node that is neither a call nor a variable: its two words
-node_fits : (c : tie.After-word2) → SFits w64 c.before.before.before.word.result × SFits w64 c.word2.result
+node_fits : (c : tie.After-word-datum) → SFits w64 c.before.before.before.word-tag.result × SFits w64 c.word-datum.result
 node_fits c = (search rules, search rules)
 
-node_item : (c : tie.After-word2) → let w = c.before.before.before in let s = w.before in ItemIs s.args.table.now s.args.configuration.now s.args.starts.now s.args.ends.now s.args.at s.args.end (record { value = Computed (to_z w64 (of_z w64 w.word.result)) (to_z w64 (of_z w64 c.word2.result)); next = s.args.at + 2 })
+node_item : (c : tie.After-word-datum) → let w = c.before.before.before in let s = w.before in ItemIs s.args.table.now s.args.configuration.now s.args.starts.now s.args.ends.now s.args.at s.args.end (record { value = Computed (to_z w64 (of_z w64 w.word-tag.result)) (to_z w64 (of_z w64 c.word-datum.result)); next = s.args.at + 2 })
 node_item c =
     let e = c.before.before in
     let w = e.before in
     let s = w.before in
     let (f, g) = node_fits c in
-    node_words s.args.table.now s.args.configuration.now s.args.starts.now s.args.ends.now s.args.at s.args.end s.requires.0.before (λ p. c.before.if3.true (ap (of_z w64) (w.word.ensures ∙ p))) (λ p. e.if1.false (ap (of_z w64) (w.word.ensures ∙ p))) _ _ (to_z-of_z f ∙ w.word.ensures) (to_z-of_z g ∙ c.word2.ensures)
+    node_words s.args.table.now s.args.configuration.now s.args.starts.now s.args.ends.now s.args.at s.args.end s.requires.0.before (λ p. c.before.if-tag-ne-VARIABLE.true (ap (of_z w64) (w.word-tag.ensures ∙ p))) (λ p. e.if-tag-eq-CALL.false (ap (of_z w64) (w.word-tag.ensures ∙ p))) _ _ (to_z-of_z f ∙ w.word-tag.ensures) (to_z-of_z g ∙ c.word-datum.ensures)
 
-add-word : tie.Need-overflow-add-word
+add-word : tie.Need-overflow_add-at
 add-word c = let s = c.before.before.before in omega (arith, node_within s.requires.0.before s.requires.0.rest)
 
-word-requires-2 : tie.Need-word-requires-2
+word-requires-2 : tie.Need-word-datum-requires
 word-requires-2 c κs = let s = c.before.before.before in omega (arith, node_within s.requires.0.before s.requires.0.rest)
 
-put-requires-2 : tie.Need-put-requires-2
+put-requires-2 : tie.Need-put-e-requires-then-tag-ne-VARIABLE
 put-requires-2 c κs =
     let d = c.before in
     let s = d.before.before.before.before in
     item_room s.args.table.now s.args.configuration.now s.args.starts.now s.args.ends.now s.args.at s.args.end s.requires.0.before _ (node_item d) _ _ s.requires.0
 
-add-t24 : tie.Need-overflow-add-t24
+add-t24 : tie.Need-overflow_add-result-then-tag-ne-VARIABLE
 add-t24 c = let s = c.before.before.before.before.before.before.before in omega (arith, node_within s.requires.0.before s.requires.0.rest)
 
-same-length-2 : tie.Need-same-length-2
+same-length-2 : tie.Need-shape_of-out-then-tag-ne-VARIABLE
 same-length-2 c = search rules
 
-returns-2 : tie.Need-returns-2
+returns-2 : tie.Need-returns-then-tag-ne-VARIABLE
 returns-2 c =
     let d = c.before.before.before in
     let s = d.before.before.before.before in
-    record { words = _; item = item_words s.args.table.now s.args.configuration.now s.args.starts.now s.args.ends.now s.args.at s.args.end s.requires.0.before _ (node_item d); puts = c.before.put2.ensures }
+    record { words = _; item = item_words s.args.table.now s.args.configuration.now s.args.starts.now s.args.ends.now s.args.at s.args.end s.requires.0.before _ (node_item d); puts = c.before.put-e-then-tag-ne-VARIABLE.ensures }
 
-item-requires : tie.Need-item-requires
+item-requires : tie.Need-item-x-requires
 item-requires c κs = let s = c.before.before in (s.requires.0.rest, s.requires.0.before, s.requires.1)
 
-put-requires-3 : tie.Need-put-requires-3
+put-requires-3 : tie.Need-put-e-requires-2
 put-requires-3 c κs =
     let x = c.before in
     let s = x.before.before.before in
-    item_room s.args.table.now s.args.configuration.now s.args.starts.now s.args.ends.now s.args.at s.args.end s.requires.0.before x.item.result x.item.ensures _ _ s.requires.0
+    item_room s.args.table.now s.args.configuration.now s.args.starts.now s.args.ends.now s.args.at s.args.end s.requires.0.before x.item-x.result x.item-x.ensures _ _ s.requires.0
 
-same-length-3 : tie.Need-same-length-3
+same-length-3 : tie.Need-shape_of-out
 same-length-3 c = search rules
 
-returns-3 : tie.Need-returns-3
+returns-3 : tie.Need-returns
 returns-3 c =
     let x = c.before.before.before in
     let s = x.before.before.before in
-    record { words = _; item = item_words s.args.table.now s.args.configuration.now s.args.starts.now s.args.ends.now s.args.at s.args.end s.requires.0.before x.item.result x.item.ensures; puts = c.before.put3.ensures }
+    record { words = _; item = item_words s.args.table.now s.args.configuration.now s.args.starts.now s.args.ends.now s.args.at s.args.end s.requires.0.before x.item-x.result x.item-x.ensures; puts = c.before.put-e-2.ensures }
 
 pub write_value_spec : {M : Type 1} → statement M
-write_value_spec =
-    tie.close
-    (tie.spec
+write_value_spec = tie.close (tie.spec
     word-requires
     is-short-call-requires
     short-call-requires

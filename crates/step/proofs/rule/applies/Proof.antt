@@ -6,23 +6,29 @@ use borrow.Author.Rules.{rules}
 use Rattle.step.proofs.rule.applies.Statement.{statement}
 use Rattle.step.proofs.rule.applies.Tie as tie
 
-enum_told : tie.Need-enum-told
+enum_told : tie.Need-enum_told-1
 enum_told c = search rules
 
-enum-told-2 : tie.Need-enum-told-2
+enum-told-2 : tie.Need-enum_told-in-Misfit
 enum-told-2 c = search rules
 
-enum-told-3 : tie.Need-enum-told-3
+enum-told-3 : tie.Need-enum_told-in-Fails
 enum-told-3 c = search rules
 
-returns : tie.Need-returns
-returns c = record { yes = λ e. c.enum_told.given.1; no = λ e. absurd (true≢false e) }
+returns : tie.Need-returns-in-Applies
+returns c = record { yes = λ e. c.enum_told-1.given.1; no = λ e. absurd (true≢false e) }
 
-returns-2 : tie.Need-returns-2
-returns-2 c = record { yes = λ e. absurd (true≢false (sym e)); no = λ e s. let z : ◌≡◌ {A = ℕ} 0 1 = cc c.enum-told2.given.1 in omega arith }
+returns-2 : tie.Need-returns-in-Misfit
+returns-2 c = record { yes = λ e. absurd (true≢false (sym e)); no = λ e s. let z : ◌≡◌ {A = ℕ} 0 1 = cc c.enum_told-in-Misfit-1.given.1 in omega arith }
 
-returns-3 : tie.Need-returns-3
-returns-3 c = record { yes = λ e. absurd (true≢false (sym e)); no = λ e s. let z : ◌≡◌ {A = ℕ} 0 1 = cc c.enum-told3.given.1 in omega arith }
+returns-3 : tie.Need-returns-in-Fails
+returns-3 c = record { yes = λ e. absurd (true≢false (sym e)); no = λ e s. let z : ◌≡◌ {A = ℕ} 0 1 = cc c.enum_told-in-Fails-1.given.1 in omega arith }
 
 pub applies_spec : {M : Type 1} → statement M
-applies_spec = tie.close (tie.spec enum_told enum-told-2 enum-told-3 returns returns-2 returns-3)
+applies_spec = tie.close (tie.spec
+    enum_told
+    enum-told-2
+    enum-told-3
+    returns
+    returns-2
+    returns-3)

@@ -24,14 +24,17 @@ module _ (number : ℕ) where
   many h (Fails k) r e = ap Fails (let j : 18446744073709551615 - number ≡ k = omega arith in j)
   many h Applies r e = absurd (let f : ⊥ = omega arith in f)
 
-returns : tie.Need-returns
-returns c = record { is = none c.before.args.number c.if1.true }
+returns : tie.Need-returns-then-number-eq0
+returns c = record { is = none c.before.args.number c.if-number-eq0.true }
 
-returns-2 : tie.Need-returns-2
-returns-2 c = record { is = few c.before.before.args.number c.before.if1.false c.if2.true }
+returns-2 : tie.Need-returns-then-number-le-MAX_TERM_NODES
+returns-2 c = record { is = few c.before.before.args.number c.before.if-number-eq0.false c.if-number-le-MAX_TERM_NODES.true }
 
-returns-3 : tie.Need-returns-3
-returns-3 c = record { is = many c.before.before.args.number c.if2.false }
+returns-3 : tie.Need-returns
+returns-3 c = record { is = many c.before.before.args.number c.if-number-le-MAX_TERM_NODES.false }
 
 pub decoded_spec : {M : Type 1} → statement M
-decoded_spec = tie.close (tie.spec returns returns-2 returns-3)
+decoded_spec = tie.close (tie.spec
+    returns
+    returns-2
+    returns-3)

@@ -12,66 +12,64 @@ use Rattle.step.proofs.rule.judge.Statement.{statement}
 use Rattle.step.proofs.rule.judge.Tie as tie
 
 -- behind the left's walk: the arrays
-module _ (m : tie.After-compare-left) where
+module _ (m : tie.After-compare_left) where
   abbrev start : tie.Start
   start = m.before.before.before
 
   abbrev starts : List ℕ
-  starts = m.compare-left.last.1.1.1.1.0
+  starts = m.compare_left.last.1.1.1.1.0
 
   abbrev ends : List ℕ
-  ends = m.compare-left.last.1.1.1.1.1.0
+  ends = m.compare_left.last.1.1.1.1.1.0
 
-  matched : (k : ℕ) → m.compare-left.result ≡ All k → SomeMatched start.args.table.now start.args.configuration.now start.args.rule starts ends
+  matched : (k : ℕ) → m.compare_left.result ≡ All k → SomeMatched start.args.table.now start.args.configuration.now start.args.rule starts ends
   matched k e =
-      some_matched start.args.table.now start.args.configuration.now start.args.rule starts ends m.compare-left.result m.compare-left.ensures k e start.pre.2 start.pre.1
+      some_matched start.args.table.now start.args.configuration.now start.args.rule starts ends m.compare_left.result m.compare_left.ensures k e start.pre.2 start.pre.1
 
-  by_conditions : (k : ℕ) → m.compare-left.result ≡ All k → (q : HowFar) → HoldIs start.args.table.now start.args.configuration.now start.args.rule starts ends q → (r : Verdict) → r ≡ verdict_held q → JudgeIs start.args.table.now start.args.configuration.now start.args.rule starts ends r
+  by_conditions : (k : ℕ) → m.compare_left.result ≡ All k → (q : HowFar) → HoldIs start.args.table.now start.args.configuration.now start.args.rule starts ends q → (r : Verdict) → r ≡ verdict_held q → JudgeIs start.args.table.now start.args.configuration.now start.args.rule starts ends r
   by_conditions k e =
-      way_held start.args.table.now start.args.configuration.now start.args.rule starts ends m.compare-left.result m.compare-left.ensures k e
+      way_held start.args.table.now start.args.configuration.now start.args.rule starts ends m.compare_left.result m.compare_left.ensures k e
 
-compare-left-requires : tie.Need-compare-left-requires
+compare-left-requires : tie.Need-compare_left-requires
 compare-left-requires c κs = search rules
 
-enum-known-count : tie.Need-enum-known-count
+enum-known-count : tie.Need-enum_known-count
 enum-known-count c = search rules
 
-enum_told : tie.Need-enum-told
+enum_told : tie.Need-enum_told-1
 enum_told c = search rules
 
-hold-conditions-requires : tie.Need-hold-conditions-requires
-hold-conditions-requires c κs = let t = c.before.before in let m = t.before.before in ((start m).requires.0, matched m t.enum_told.given.0.0 t.enum_told.given.1)
+hold-conditions-requires : tie.Need-hold_conditions-requires
+hold-conditions-requires c κs = let t = c.before.before in let m = t.before.before in ((start m).requires.0, matched m t.enum_told-1.given.0.0 t.enum_told-1.given.1)
 
-enum-known-number : tie.Need-enum-known-number
+enum-known-number : tie.Need-enum_known-number
 enum-known-number c = search rules
 
-enum-told-2 : tie.Need-enum-told-2
+enum-told-2 : tie.Need-enum_told-in-All-hold_conditions
 enum-told-2 c = search rules
 
-returns : tie.Need-returns
+returns : tie.Need-returns-in-Until
 returns c =
     let p = c.before in
     let m = p.before.before in
     let s = start m in
-    way_misfit s.args.table.now s.args.configuration.now s.args.rule (starts m) (ends m) m.compare-left.result m.compare-left.ensures p.count.given.0.0 p.count.given.1
+    way_misfit s.args.table.now s.args.configuration.now s.args.rule (starts m) (ends m) m.compare_left.result m.compare_left.ensures p.count-1.given.0.0 p.count-1.given.1
 
-returns-2 : tie.Need-returns-2
+returns-2 : tie.Need-returns-in-Until-hold_conditions
 returns-2 c =
     let k = c.before in
     let h = k.before.before in
     let t = h.before.before.before in
-    by_conditions t.before.before t.enum_told.given.0.0 t.enum_told.given.1 h.hold-conditions.result h.hold-conditions.ensures _ (sym (ap verdict_held k.number.given.1))
+    by_conditions t.before.before t.enum_told-1.given.0.0 t.enum_told-1.given.1 h.hold_conditions.result h.hold_conditions.ensures _ (sym (ap verdict_held k.number-1.given.1))
 
-returns-3 : tie.Need-returns-3
+returns-3 : tie.Need-returns-in-All-hold_conditions
 returns-3 c =
     let h = c.before.before in
     let t = h.before.before.before in
-    by_conditions t.before.before t.enum_told.given.0.0 t.enum_told.given.1 h.hold-conditions.result h.hold-conditions.ensures _ (sym (ap verdict_held c.enum-told2.given.1))
+    by_conditions t.before.before t.enum_told-1.given.0.0 t.enum_told-1.given.1 h.hold_conditions.result h.hold_conditions.ensures _ (sym (ap verdict_held c.enum_told-in-All-hold_conditions-1.given.1))
 
 pub judge_spec : {M : Type 1} → statement M
-judge_spec =
-    tie.close
-    (tie.spec
+judge_spec = tie.close (tie.spec
     compare-left-requires
     enum-known-count
     enum_told

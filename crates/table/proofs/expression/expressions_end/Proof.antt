@@ -11,62 +11,60 @@ use Rattle.table.proofs.ReachLaw.{reach_stops}
 use Rattle.table.proofs.expression.expressions_end.Statement.{statement}
 use Rattle.table.proofs.expression.expressions_end.Tie as tie
 
-abbrev invariant-loop : tie.invariant-loop
+abbrev invariant-loop : tie.invariant-loop-k
 invariant-loop table at count seen ranges i₀ k₀ met₀ i k met = SoFar table Expression at count seen i k met seen
 
-abbrev decreases-loop : tie.decreases-loop
+abbrev decreases-loop : tie.decreases-loop-k
 decreases-loop table at count seen ranges i₀ k₀ met₀ i k met = length table - i
 
-loop-holds : tie.Need-loop-init invariant-loop decreases-loop
+loop-holds : tie.Need-loop-k-init invariant-loop decreases-loop
 loop-holds c = loop_start c.args.table.now Expression c.args.at c.args.count c.args.seen.now c.requires.0 c.requires.1
 
-expression-turn-requires : tie.Need-expression-turn-requires invariant-loop decreases-loop
-expression-turn-requires c κs = (c.before.loop.invariant.reaches.inside, c.before.before.requires.2)
+expression-turn-requires : tie.Need-expression_turn-requires invariant-loop decreases-loop
+expression-turn-requires c κs = (c.before.loop-k.invariant.reaches.inside, c.before.before.requires.2)
 
-enum-known-e : tie.Need-enum-known-e invariant-loop decreases-loop
+enum-known-e : tie.Need-enum_known-e invariant-loop decreases-loop
 enum-known-e c = search rules
 
-enum_told : tie.Need-enum-told invariant-loop decreases-loop
+enum_told : tie.Need-enum_told-1 invariant-loop decreases-loop
 enum_told c = search rules
 
-returns : tie.Need-returns invariant-loop decreases-loop
+returns : tie.Need-returns-in_default invariant-loop decreases-loop
 returns c =
     let u = c.before.before in
-    let l = u.before.before.loop in
+    let l = u.before.before.loop-k in
     let a = u.before.before.before.args in
-    reach_stops a.table.now Expression a.at a.count a.seen.now l.i l.k a.seen.now l.invariant.reaches u.before.loop-test.true a.seen.now
-    (subst (TurnIs a.table.now Expression l.i a.seen.now a.seen.now) c.enum_told.given.1 u.expression-turn.ensures)
+    reach_stops a.table.now Expression a.at a.count a.seen.now l.i l.k a.seen.now l.invariant.reaches u.before.loop-k-test.true a.seen.now
+    (subst (TurnIs a.table.now Expression l.i a.seen.now a.seen.now) c.enum_told-1.given.1 u.expression_turn.ensures)
 
 -- the turn
-turn : (c : tie.After-known-told invariant-loop decreases-loop) → Turned c.before.before.before.before.before.before.args.table.now Expression c.before.before.before.before.before.loop.i c.before.before.before.before.before.before.args.seen.now c.before.before.before.before.before.before.args.seen.now c.before.e.given.0.0 c.before.e.given.0.1.0 c.before.e.given.0.1.1.0
+turn : (c : tie.In-On invariant-loop decreases-loop) → Turned c.before.before.before.before.before.before.args.table.now Expression c.before.before.before.before.before.loop-k.i c.before.before.before.before.before.before.args.seen.now c.before.before.before.before.before.before.args.seen.now c.before.e-1.given.0.0 c.before.e-1.given.0.1.0 c.before.e-1.given.0.1.1.0
 turn c =
     let u = c.before.before.before in
-    let l = u.before.before.loop in
+    let l = u.before.before.loop-k in
     let a = u.before.before.before.args in
-    subst (TurnIs a.table.now Expression l.i a.seen.now a.seen.now) c.before.e.given.1 u.expression-turn.ensures
+    subst (TurnIs a.table.now Expression l.i a.seen.now a.seen.now) c.before.e-1.given.1 u.expression_turn.ensures
 
-taken : (c : tie.After-known-told invariant-loop decreases-loop) → 0 < c.before.before.before.before.before.loop.k
-taken c = c.before.before.before.before.loop-test.true
+taken : (c : tie.In-On invariant-loop decreases-loop) → 0 < c.before.before.before.before.before.loop-k.k
+taken c = c.before.before.before.before.loop-k-test.true
 
-sub-k : tie.Need-overflow-sub-k invariant-loop decreases-loop
+sub-k : tie.Need-overflow_sub-k invariant-loop decreases-loop
 sub-k c = search rules
 
-add-k : tie.Need-overflow-add-k invariant-loop decreases-loop
-add-k c = let f = loop_few c.before.before.before.before.before.loop.invariant (taken c) (turn c) in search rules
+add-k : tie.Need-overflow_add-k invariant-loop decreases-loop
+add-k c = let f = loop_few c.before.before.before.before.before.loop-k.invariant (taken c) (turn c) in search rules
 
-loop-less : tie.Need-loop-smaller invariant-loop decreases-loop
-loop-less c = loop_nearer c.before.before.before.before.before.loop.invariant (taken c) (turn c)
+loop-less : tie.Need-loop-k-smaller invariant-loop decreases-loop
+loop-less c = loop_nearer c.before.before.before.before.before.loop-k.invariant (taken c) (turn c)
 
-loop-again : tie.Need-loop-preserved invariant-loop decreases-loop
-loop-again c = loop_on c.before.before.before.before.before.loop.invariant (taken c) (turn c)
+loop-again : tie.Need-loop-k-preserved invariant-loop decreases-loop
+loop-again c = loop_on c.before.before.before.before.before.loop-k.invariant (taken c) (turn c)
 
-returns-2 : tie.Need-returns-2 invariant-loop decreases-loop
-returns-2 c = loop_done c.before.loop.invariant (let h = c.loop-test.false in omega arith)
+returns-2 : tie.Need-returns invariant-loop decreases-loop
+returns-2 c = loop_done c.before.loop-k.invariant (let h = c.loop-k-test.false in omega arith)
 
 pub expressions_end_spec : {M : Type 1} → statement M
-expressions_end_spec =
-    tie.close
-    (tie.spec
+expressions_end_spec = tie.close (tie.spec
     invariant-loop
     decreases-loop
     loop-holds

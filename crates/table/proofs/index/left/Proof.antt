@@ -13,7 +13,10 @@ returns : tie.Need-returns
 returns c =
     let n = c.before in
     let s = n.before in
-    left_is s.args.table.now s.args.index.now s.args.rule s.requires.0 n.place.result c.place2.result n.place.ensures c.place2.ensures
+    left_is s.args.table.now s.args.index.now s.args.rule s.requires.0 n.place.result c.place-2.result n.place.ensures c.place-2.ensures
 
 pub left_spec : {M : Type 1} → statement M
-left_spec = tie.close (tie.spec place-requires place-requires-2 returns)
+left_spec = tie.close (tie.spec
+    place-requires
+    place-requires-2
+    returns)

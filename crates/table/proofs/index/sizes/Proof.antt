@@ -13,7 +13,10 @@ returns : tie.Need-returns
 returns c =
     let n = c.before in
     let s = n.before in
-    sizes_are s.args.table.now s.args.index.now s.args.rule s.requires.0 n.number.result c.number2.result n.number.ensures.is c.number2.ensures.is
+    sizes_are s.args.table.now s.args.index.now s.args.rule s.requires.0 n.number.result c.number-2.result n.number.ensures.is c.number-2.ensures.is
 
 pub sizes_spec : {M : Type 1} → statement M
-sizes_spec = tie.close (tie.spec number-requires number-requires-2 returns)
+sizes_spec = tie.close (tie.spec
+    number-requires
+    number-requires-2
+    returns)

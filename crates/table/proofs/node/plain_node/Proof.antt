@@ -12,16 +12,16 @@ use Rattle.table.proofs.PlainLaw.{known_at}
 use Rattle.table.proofs.node.plain_node.Statement.{statement}
 use Rattle.table.proofs.node.plain_node.Tie as tie
 
-sub-if1 : tie.Need-overflow-sub-if1
+sub-if1 : tie.Need-overflow_sub-table
 sub-if1 c = search rules
 
-returns : tie.Need-returns
+returns : tie.Need-returns-then-table-i-lt2
 returns c = search rules
 
 word-requires : tie.Need-word-requires
 word-requires c κs = search rules
 
-add-word : tie.Need-overflow-add-word
+add-word : tie.Need-overflow_add-i
 add-word c = search rules
 
 word-requires-2 : tie.Need-word-requires-2
@@ -30,16 +30,21 @@ word-requires-2 c κs = search rules
 classify-requires : tie.Need-classify-requires
 classify-requires c κs = search rules
 
-returns-2 : tie.Need-returns-2
+returns-2 : tie.Need-returns
 returns-2 c =
     let s = c.before.before.before.before in
     let a = s.args in
     let f : SFits w64 c.before.before.word.result = search rules in
-    let g : SFits w64 c.before.word2.result = search rules in
-    known_at a.table.now a.i c.classify.result (let h = c.before.before.before.if1.false in let p = s.requires in omega arith)
-    (subst₂ (λ (x y : ℤ). Known plain_functions x y c.classify.result) c.before.before.word.ensures c.before.word2.ensures (said₂ (λ (x y : ℤ). Known plain_functions x y c.classify.result) f g c.classify.ensures))
+    let g : SFits w64 c.before.word-2.result = search rules in
+    known_at a.table.now a.i c.classify.result (let h = c.before.before.before.if-table-i-lt2.false in let p = s.requires in omega arith)
+    (subst₂ (λ (x y : ℤ). Known plain_functions x y c.classify.result) c.before.before.word.ensures c.before.word-2.ensures (said₂ (λ (x y : ℤ). Known plain_functions x y c.classify.result) f g c.classify.ensures))
 
 pub plain_node_spec : {M : Type 1} → statement M
-plain_node_spec =
-    tie.close
-    (tie.spec sub-if1 returns word-requires add-word word-requires-2 classify-requires returns-2)
+plain_node_spec = tie.close (tie.spec
+    sub-if1
+    returns
+    word-requires
+    add-word
+    word-requires-2
+    classify-requires
+    returns-2)

@@ -5,18 +5,21 @@ use Rattle.table.proofs.NodeLaw.{takes}
 use Rattle.table.proofs.node.takes_variable.Statement.{statement}
 use Rattle.table.proofs.node.takes_variable.Tie as tie
 
-element-write-seen : tie.Need-element-write-seen
+element-write-seen : tie.Need-bounds-seen-v
 element-write-seen c = search rules
 
-returns : tie.Need-returns
-returns c = let a = c.before.args in takes true a.left a.v a.seen.now c.if1.true
+returns : tie.Need-returns-then-left
+returns c = let a = c.before.args in takes true a.left a.v a.seen.now c.if-left.true
 
-element-copy-out-result : tie.Need-element-copy-out-result
+element-copy-out-result : tie.Need-bounds-seen-v-2
 element-copy-out-result c = search rules
 
-returns-2 : tie.Need-returns-2
-returns-2 c = let a = c.before.before.args in takes false a.left a.v a.seen.now c.before.if1.false
+returns-2 : tie.Need-returns
+returns-2 c = let a = c.before.before.args in takes false a.left a.v a.seen.now c.before.if-left.false
 
 pub takes_variable_spec : {M : Type 1} → statement M
-takes_variable_spec =
-    tie.close (tie.spec element-write-seen returns element-copy-out-result returns-2)
+takes_variable_spec = tie.close (tie.spec
+    element-write-seen
+    returns
+    element-copy-out-result
+    returns-2)

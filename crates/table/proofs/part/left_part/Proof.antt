@@ -9,34 +9,32 @@ use Rattle.table.specs.Size.{SidePartContract}
 use Rattle.table.proofs.part.left_part.Statement.{statement}
 use Rattle.table.proofs.part.left_part.Tie as tie
 
-plain-side-part-requires : tie.Need-plain-side-part-requires
+plain-side-part-requires : tie.Need-plain_side_part-requires
 plain-side-part-requires c κs = search rules
 
-enum-known-e : tie.Need-enum-known-e
+enum-known-e : tie.Need-enum_known-e
 enum-known-e c = search rules
 
-enum_told : tie.Need-enum-told
+enum_told : tie.Need-enum_told-1
 enum_told c = search rules
 
-mixed-side-part-requires : tie.Need-mixed-side-part-requires
+mixed-side-part-requires : tie.Need-mixed_side_part-requires
 mixed-side-part-requires c κs = search rules
 
-returns : tie.Need-returns
+returns : tie.Need-returns-in-At
 returns c =
     let u = c.before.before.before in
     let a = u.before.before.args in
-    subst (PlainSidePartIs a.table.now a.at Left a.seen.now u.plain-side-part.new.1.1.1.0) c.before.e.given.1 u.plain-side-part.ensures
+    subst (PlainSidePartIs a.table.now a.at Left a.seen.now u.plain_side_part.new.1.1.1.0) c.before.e-1.given.1 u.plain_side_part.ensures
 
-returns-2 : tie.Need-returns-2
+returns-2 : tie.Need-returns-in-Nowhere
 returns-2 c =
     let s = c.before.before.before.before.before.before.before in
     let a = s.args in
-    subst⁻¹ (λ (x : List Bool). SidePartContract a.table.now a.at Left x c.mixed-side-part.new.1.1.1.0 c.mixed-side-part.result) s.requires.0 c.mixed-side-part.ensures
+    subst⁻¹ (λ (x : List Bool). SidePartContract a.table.now a.at Left x c.mixed_side_part.new.1.1.1.0 c.mixed_side_part.result) s.requires.0 c.mixed_side_part.ensures
 
 pub left_part_spec : {M : Type 1} → statement M
-left_part_spec =
-    tie.close
-    (tie.spec
+left_part_spec = tie.close (tie.spec
     plain-side-part-requires
     enum-known-e
     enum_told

@@ -9,36 +9,34 @@ use Rattle.table.specs.Size.{SidePartContract}
 use Rattle.table.proofs.part.right_part.Statement.{statement}
 use Rattle.table.proofs.part.right_part.Tie as tie
 
-plain-side-part-requires : tie.Need-plain-side-part-requires
+plain-side-part-requires : tie.Need-plain_side_part-requires
 plain-side-part-requires c κs = search rules
 
-enum-known-e : tie.Need-enum-known-e
+enum-known-e : tie.Need-enum_known-e
 enum-known-e c = search rules
 
-enum_told : tie.Need-enum-told
+enum_told : tie.Need-enum_told-1
 enum_told c = search rules
 
-mixed-side-part-requires : tie.Need-mixed-side-part-requires
+mixed-side-part-requires : tie.Need-mixed_side_part-requires
 mixed-side-part-requires c κs = search rules
 
-returns : tie.Need-returns
+returns : tie.Need-returns-in-At
 returns c =
     let u = c.before.before.before in
     let a = u.before.before.args in
-    subst (PlainSidePartIs a.table.now a.at Right a.seen.now u.plain-side-part.new.1.1.1.0) c.before.e.given.1 u.plain-side-part.ensures
+    subst (PlainSidePartIs a.table.now a.at Right a.seen.now u.plain_side_part.new.1.1.1.0) c.before.e-1.given.1 u.plain_side_part.ensures
 
-returns-2 : tie.Need-returns-2
+returns-2 : tie.Need-returns-in-Nowhere
 returns-2 c =
     let u = c.before.before.before.before in
     let a = u.before.before.args in
-    let s = u.plain-side-part.new.1.1.1.0 in
-    let kept : s ≡ a.seen.now = subst (PlainSidePartIs a.table.now a.at Right a.seen.now s) c.before.before.enum_told.given.1 u.plain-side-part.ensures in
-    subst (λ (x : List Bool). SidePartContract a.table.now a.at Right x c.mixed-side-part.new.1.1.1.0 c.mixed-side-part.result) kept c.mixed-side-part.ensures
+    let s = u.plain_side_part.new.1.1.1.0 in
+    let kept : s ≡ a.seen.now = subst (PlainSidePartIs a.table.now a.at Right a.seen.now s) c.before.before.enum_told-1.given.1 u.plain_side_part.ensures in
+    subst (λ (x : List Bool). SidePartContract a.table.now a.at Right x c.mixed_side_part.new.1.1.1.0 c.mixed_side_part.result) kept c.mixed_side_part.ensures
 
 pub right_part_spec : {M : Type 1} → statement M
-right_part_spec =
-    tie.close
-    (tie.spec
+right_part_spec = tie.close (tie.spec
     plain-side-part-requires
     enum-known-e
     enum_told

@@ -14,85 +14,83 @@ use Rattle.table.proofs.plain_expression.plain_turn.Statement.{statement}
 use Rattle.table.proofs.plain_expression.plain_turn.Tie as tie
 
 -- the node that stands there
-known : (c : tie.After-plain-node) (n : Node) → c.plain-node.result ≡ n → KnownAt c.before.args.table.now c.before.args.i n
-known c n e = subst (KnownAt c.before.args.table.now c.before.args.i) e c.plain-node.ensures
+known : (c : tie.After-plain_node) (n : Node) → c.plain_node.result ≡ n → KnownAt c.before.args.table.now c.before.args.i n
+known c n e = subst (KnownAt c.before.args.table.now c.before.args.i) e c.plain_node.ensures
 
-plain-node-requires : tie.Need-plain-node-requires
+plain-node-requires : tie.Need-plain_node-requires
 plain-node-requires c κs = search rules
 
-enum-known-k : tie.Need-enum-known-k
+enum-known-k : tie.Need-enum_known-k
 enum-known-k c = search rules
 
-add-tagged-terms : tie.Need-overflow-add-tagged-terms
+add-tagged-terms : tie.Need-overflow_add-i
 add-tagged-terms c = search rules
 
-tagged-terms-requires : tie.Need-tagged-terms-requires
+tagged-terms-requires : tie.Need-tagged_terms-reached-requires
 tagged-terms-requires c κs =
     let u = c.before.before.before in
-    let h = known u (N.Plain c.before.k.given.0.0) c.before.k.given.1 in
+    let h = known u (N.Plain c.before.k-1.given.0.0) c.before.k-1.given.1 in
     (h.room, plain_few h u.before.args.seen.now, u.before.requires.1)
 
-enum-known-k-2 : tie.Need-enum-known-k-2
+enum-known-k-2 : tie.Need-enum_known-k-in-Call-1
 enum-known-k-2 c = search rules
 
-add-t14 : tie.Need-overflow-add-t14
+add-t14 : tie.Need-overflow_add-result
 add-t14 c = search rules
 
-enum-known-v : tie.Need-enum-known-v
+enum-known-v : tie.Need-enum_known-v
 enum-known-v c = search rules
 
-element-copy-out-if2 : tie.Need-element-copy-out-if2
-element-copy-out-if2 c = number_small (known c.before.before.before (N.Variable c.before.v.given.0.0) c.before.v.given.1)
+element-copy-out-if2 : tie.Need-bounds-seen-v
+element-copy-out-if2 c = number_small (known c.before.before.before (N.Variable c.before.v-1.given.0.0) c.before.v-1.given.1)
 
-add-t20 : tie.Need-overflow-add-t20
+add-t20 : tie.Need-overflow_add-result-then-seen-v
 add-t20 c = search rules
 
-enum_told : tie.Need-enum-told
+enum_told : tie.Need-enum_told-1
 enum_told c = search rules
 
-enum-told-2 : tie.Need-enum-told-2
+enum-told-2 : tie.Need-enum_told-in-Bad
 enum-told-2 c = search rules
 
-returns : tie.Need-returns
+returns : tie.Need-returns-then-reached-eq0
 returns c =
     let w = c.before.before in
     let v = w.before in
     let u = v.before.before.before in
     let a = u.before.args in
-    let k = v.before.k.given.0.0 in
-    let r = w.tagged-terms.result in
-    plain_on (known u (N.Plain k) v.before.k.given.1) a.seen.now (all_tagged a.table.now (a.i + 2) k r w.tagged-terms.ensures c.if1.true) r.at false refl
+    let k = v.before.k-1.given.0.0 in
+    let r = w.tagged_terms-reached.result in
+    plain_on (known u (N.Plain k) v.before.k-1.given.1) a.seen.now (all_tagged a.table.now (a.i + 2) k r w.tagged_terms-reached.ensures c.if-reached-eq0.true) r.at false refl
 
-returns-2 : tie.Need-returns-2
+returns-2 : tie.Need-returns-else-reached-eq0
 returns-2 c = tt
 
-returns-3 : tie.Need-returns-3
+returns-3 : tie.Need-returns-in-Call
 returns-3 c =
     let u = c.before.before.before in
-    let k = c.before.k2.given.0.0 in
-    let f = c.before.k2.given.0.1.0 in
-    let h = known u (N.Call k f) c.before.k2.given.1 in
+    let k = c.before.k-in-Call-1.given.0.0 in
+    let f = c.before.k-in-Call-1.given.0.1.0 in
+    let h = known u (N.Call k f) c.before.k-in-Call-1.given.1 in
     argument_on h.0 u.before.args.seen.now (small_code f h.1)
 
-returns-4 : tie.Need-returns-4
+returns-4 : tie.Need-returns-then-seen-v
 returns-4 c =
     let w = c.before.before in
     let u = w.before.before.before in
-    flagged_on (known u (N.Variable w.before.v.given.0.0) w.before.v.given.1) u.before.args.seen.now c.if2.true
+    flagged_on (known u (N.Variable w.before.v-1.given.0.0) w.before.v-1.given.1) u.before.args.seen.now c.if-seen-v.true
 
-returns-5 : tie.Need-returns-5
+returns-5 : tie.Need-returns-else-seen-v
 returns-5 c = tt
 
-returns-6 : tie.Need-returns-6
+returns-6 : tie.Need-returns-in-Literal
 returns-6 c = tt
 
-returns-7 : tie.Need-returns-7
+returns-7 : tie.Need-returns-in-Bad
 returns-7 c = tt
 
 pub plain_turn_spec : {M : Type 1} → statement M
-plain_turn_spec =
-    tie.close
-    (tie.spec
+plain_turn_spec = tie.close (tie.spec
     plain-node-requires
     enum-known-k
     add-tagged-terms

@@ -13,69 +13,67 @@ use Rattle.table.proofs.LoopLaw.{SideSoFar, loop_few, loop_nearer, side_start, s
 use Rattle.table.proofs.plain_side.plain_side.Statement.{statement}
 use Rattle.table.proofs.plain_side.plain_side.Tie as tie
 
-abbrev invariant-loop : tie.invariant-loop
+abbrev invariant-loop : tie.invariant-loop-k
 invariant-loop left table at seen₀ ranges i₀ k₀ fixed₀ leaves₀ seen i k fixed leaves = SideSoFar table (side_level left) at seen₀ i k fixed leaves false seen
 
-abbrev decreases-loop : tie.decreases-loop
+abbrev decreases-loop : tie.decreases-loop-k
 decreases-loop left table at seen₀ ranges i₀ k₀ fixed₀ leaves₀ seen i k fixed leaves = length table - i
 
-loop-holds : tie.Need-loop-init invariant-loop decreases-loop
+loop-holds : tie.Need-loop-k-init invariant-loop decreases-loop
 loop-holds c = side_start c.args.table.now (side_level c.args.left) c.args.at c.args.seen.now c.requires.0
 
-plain-turn-requires : tie.Need-plain-turn-requires invariant-loop decreases-loop
-plain-turn-requires c κs = (c.before.before.loop.invariant.walked.reaches.inside, c.before.before.before.requires.1)
+plain-turn-requires : tie.Need-plain_turn-requires invariant-loop decreases-loop
+plain-turn-requires c κs = (c.before.before.loop-k.invariant.walked.reaches.inside, c.before.before.before.requires.1)
 
-enum-known-e : tie.Need-enum-known-e invariant-loop decreases-loop
+enum-known-e : tie.Need-enum_known-e invariant-loop decreases-loop
 enum-known-e c = search rules
 
-enum_told : tie.Need-enum-told invariant-loop decreases-loop
+enum_told : tie.Need-enum_told-1 invariant-loop decreases-loop
 enum_told c = search rules
 
-returns : tie.Need-returns invariant-loop decreases-loop
+returns : tie.Need-returns-in_default invariant-loop decreases-loop
 returns c =
     let u = c.before.before in
-    let l = u.before.before.before.loop in
+    let l = u.before.before.before.loop-k in
     let a = u.before.before.before.before.args in
     let s = u.plain_turn.new.1.1.1.0 in
     kept_on a.table.now (side_level a.left) a.at 1 a.seen.now l.i l.k l.seen l.invariant.walked.reaches s
-    (subst (PlainSideTurnIs a.table.now (side_level a.left) l.i l.seen s) c.enum_told.given.1 u.plain_turn.ensures)
+    (subst (PlainSideTurnIs a.table.now (side_level a.left) l.i l.seen s) c.enum_told-1.given.1 u.plain_turn.ensures)
 
 -- the turn
-turn : (c : tie.After-known-told invariant-loop decreases-loop) → SideTurnOn c.before.before.before.before.before.before.before.args.table.now (side_level c.before.before.before.before.before.before.before.args.left) c.before.before.before.before.before.before.loop.i c.before.before.before.before.before.before.loop.seen c.before.before.before.plain_turn.new.1.1.1.0 c.before.e.given.0.0 c.before.e.given.0.1.0 c.before.e.given.0.1.1.0 c.before.e.given.0.1.1.1.0 false
+turn : (c : tie.In-On invariant-loop decreases-loop) → SideTurnOn c.before.before.before.before.before.before.before.args.table.now (side_level c.before.before.before.before.before.before.before.args.left) c.before.before.before.before.before.before.loop-k.i c.before.before.before.before.before.before.loop-k.seen c.before.before.before.plain_turn.new.1.1.1.0 c.before.e-1.given.0.0 c.before.e-1.given.0.1.0 c.before.e-1.given.0.1.1.0 c.before.e-1.given.0.1.1.1.0 false
 turn c =
     let u = c.before.before.before in
-    let l = u.before.before.before.loop in
+    let l = u.before.before.before.loop-k in
     let a = u.before.before.before.before.args in
-    subst (PlainSideTurnIs a.table.now (side_level a.left) l.i l.seen u.plain_turn.new.1.1.1.0) c.before.e.given.1 u.plain_turn.ensures
+    subst (PlainSideTurnIs a.table.now (side_level a.left) l.i l.seen u.plain_turn.new.1.1.1.0) c.before.e-1.given.1 u.plain_turn.ensures
 
-taken : (c : tie.After-known-told invariant-loop decreases-loop) → 0 < c.before.before.before.before.before.before.loop.k
-taken c = c.before.before.before.before.before.loop-test.true
+taken : (c : tie.In-On invariant-loop decreases-loop) → 0 < c.before.before.before.before.before.before.loop-k.k
+taken c = c.before.before.before.before.before.loop-k-test.true
 
-add-fixed : tie.Need-overflow-add-fixed invariant-loop decreases-loop
-add-fixed c = let f = side_few c.before.before.before.before.before.before.loop.invariant (taken c) (turn c) in search rules
+add-fixed : tie.Need-overflow_add-fixed invariant-loop decreases-loop
+add-fixed c = let f = side_few c.before.before.before.before.before.before.loop-k.invariant (taken c) (turn c) in search rules
 
-add-leaves : tie.Need-overflow-add-leaves invariant-loop decreases-loop
-add-leaves c = let f = side_few c.before.before.before.before.before.before.loop.invariant (taken c) (turn c) in search rules
+add-leaves : tie.Need-overflow_add-leaves invariant-loop decreases-loop
+add-leaves c = let f = side_few c.before.before.before.before.before.before.loop-k.invariant (taken c) (turn c) in search rules
 
-sub-k : tie.Need-overflow-sub-k invariant-loop decreases-loop
+sub-k : tie.Need-overflow_sub-k invariant-loop decreases-loop
 sub-k c = search rules
 
-add-k : tie.Need-overflow-add-k invariant-loop decreases-loop
-add-k c = let l = c.before.before.before.before.before.before.loop in let f = loop_few l.invariant.walked (taken c) (side_turned l.invariant (taken c) (turn c)) in search rules
+add-k : tie.Need-overflow_add-k invariant-loop decreases-loop
+add-k c = let l = c.before.before.before.before.before.before.loop-k in let f = loop_few l.invariant.walked (taken c) (side_turned l.invariant (taken c) (turn c)) in search rules
 
-loop-less : tie.Need-loop-smaller invariant-loop decreases-loop
-loop-less c = let l = c.before.before.before.before.before.before.loop in loop_nearer l.invariant.walked (taken c) (side_turned l.invariant (taken c) (turn c))
+loop-less : tie.Need-loop-k-smaller invariant-loop decreases-loop
+loop-less c = let l = c.before.before.before.before.before.before.loop-k in loop_nearer l.invariant.walked (taken c) (side_turned l.invariant (taken c) (turn c))
 
-loop-again : tie.Need-loop-preserved invariant-loop decreases-loop
-loop-again c = side_on c.before.before.before.before.before.before.loop.invariant (taken c) (turn c)
+loop-again : tie.Need-loop-k-preserved invariant-loop decreases-loop
+loop-again c = side_on c.before.before.before.before.before.before.loop-k.invariant (taken c) (turn c)
 
-returns-2 : tie.Need-returns-2 invariant-loop decreases-loop
-returns-2 c = side_done c.before.loop.invariant (let h = c.loop-test.false in omega arith)
+returns-2 : tie.Need-returns invariant-loop decreases-loop
+returns-2 c = side_done c.before.loop-k.invariant (let h = c.loop-k-test.false in omega arith)
 
 pub plain_side_spec : {M : Type 1} → statement M
-plain_side_spec =
-    tie.close
-    (tie.spec
+plain_side_spec = tie.close (tie.spec
     invariant-loop
     decreases-loop
     loop-holds

@@ -10,45 +10,43 @@ use Rattle.table.proofs.PartLaw.{placed_at, part_unmet}
 use Rattle.table.proofs.plain_walk.plain_part.Statement.{statement}
 use Rattle.table.proofs.plain_walk.plain_part.Tie as tie
 
-returns : tie.Need-returns
+returns : tie.Need-returns-then-table-at
 returns c = tt
 
-plain-end-requires : tie.Need-plain-end-requires
+plain-end-requires : tie.Need-plain_end-requires
 plain-end-requires c κs = search rules
 
-enum-known-end : tie.Need-enum-known-end
+enum-known-end : tie.Need-enum_known-end
 enum-known-end c = search rules
 
-enum_told : tie.Need-enum-told
+enum_told : tie.Need-enum_told-1
 enum_told c = search rules
 
-returns-2 : tie.Need-returns-2
+returns-2 : tie.Need-returns-in_default
 returns-2 c = tt
 
 -- the place that was found
-reached : (c : tie.After-known-told) → Ends c.before.before.before.before.before.args.table.now Expression c.before.before.before.before.before.args.at 1 c.before.before.before.before.before.args.seen.now c.before.before.before.before.before.args.seen.now c.before.end.given.0.0 false
+reached : (c : tie.In-At) → Ends c.before.before.before.before.before.args.table.now Expression c.before.before.before.before.before.args.at 1 c.before.before.before.before.before.args.seen.now c.before.before.before.before.before.args.seen.now c.before.end-1.given.0.0 false
 reached c =
     let u = c.before.before.before in
     let a = u.before.before.args in
-    subst (PlainEndIs a.table.now a.at 1 a.seen.now) c.before.end.given.1 u.plain_end.ensures
+    subst (PlainEndIs a.table.now a.at 1 a.seen.now) c.before.end-1.given.1 u.plain_end.ensures
 
-sub-if2 : tie.Need-overflow-sub-if2
+sub-if2 : tie.Need-overflow_sub-end
 sub-if2 c = (reached c).reaches.later
 
-returns-3 : tie.Need-returns-3
+returns-3 : tie.Need-returns-then-end-at-gt-MAX_TERM_WORDS
 returns-3 c = tt
 
-returns-4 : tie.Need-returns-4
+returns-4 : tie.Need-returns
 returns-4 c =
     let v = c.before in
     let u = v.before.before.before.before in
     let a = u.before.args in
-    placed_at v.before.end.given.0.0 (part_end a.table.now a.at Expression a.seen.now) (part_unmet u.if1.false (reached v).reaches c.if2.false ((reached v).order.none refl)).answer
+    placed_at v.before.end-1.given.0.0 (part_end a.table.now a.at Expression a.seen.now) (part_unmet u.if-table-at.false (reached v).reaches c.if-end-at-gt-MAX_TERM_WORDS.false ((reached v).order.none refl)).answer
 
 pub plain_part_spec : {M : Type 1} → statement M
-plain_part_spec =
-    tie.close
-    (tie.spec
+plain_part_spec = tie.close (tie.spec
     returns
     plain-end-requires
     enum-known-end

@@ -11,78 +11,76 @@ use Rattle.table.proofs.SideLaw.{first_missed, second_missed, both_found}
 use Rattle.table.proofs.rule.conditions_end.Statement.{statement}
 use Rattle.table.proofs.rule.conditions_end.Tie as tie
 
-abbrev invariant-loop : tie.invariant-loop
+abbrev invariant-loop : tie.invariant-loop-k
 invariant-loop table at count seen ranges i₀ k₀ i k = conditions_end count table seen at ≡ conditions_end k table seen i
 
-abbrev decreases-loop : tie.decreases-loop
+abbrev decreases-loop : tie.decreases-loop-k
 decreases-loop table at count seen ranges i₀ k₀ i k = k
 
-loop-holds : tie.Need-loop-init invariant-loop decreases-loop
+loop-holds : tie.Need-loop-k-init invariant-loop decreases-loop
 loop-holds c = refl
 
-expression-part-requires : tie.Need-expression-part-requires invariant-loop decreases-loop
+expression-part-requires : tie.Need-expression_part-requires invariant-loop decreases-loop
 expression-part-requires c κs = search rules
 
-enum-known-second : tie.Need-enum-known-second invariant-loop decreases-loop
+enum-known-second : tie.Need-enum_known-second invariant-loop decreases-loop
 enum-known-second c = search rules
 
-enum_told : tie.Need-enum-told invariant-loop decreases-loop
+enum_told : tie.Need-enum_told-1 invariant-loop decreases-loop
 enum_told c = search rules
 
-returns : tie.Need-returns invariant-loop decreases-loop
+returns : tie.Need-returns-in_default invariant-loop decreases-loop
 returns c =
-    let l = c.before.before.before.before.loop in
+    let l = c.before.before.before.before.loop-k in
     let ws = c.before.before.before.before.before.args.table.now in
     let s = c.before.before.before.before.before.args.seen.now in
-    sym (ap placed (l.invariant ∙ first_missed ws s l.i l.k c.before.before.before.loop-test.true (placed_nowhere (part_end ws l.i Expression s) (sym c.enum_told.given.1 ∙ c.before.before.expression-part.ensures))))
+    sym (ap placed (l.invariant ∙ first_missed ws s l.i l.k c.before.before.before.loop-k-test.true (placed_nowhere (part_end ws l.i Expression s) (sym c.enum_told-1.given.1 ∙ c.before.before.expression_part.ensures))))
 
-expression-part-requires-2 : tie.Need-expression-part-requires-2 invariant-loop decreases-loop
+expression-part-requires-2 : tie.Need-expression_part-requires-in-loop-k invariant-loop decreases-loop
 expression-part-requires-2 c κs = search rules
 
-enum-known-end : tie.Need-enum-known-end invariant-loop decreases-loop
+enum-known-end : tie.Need-enum_known-end invariant-loop decreases-loop
 enum-known-end c = search rules
 
-enum-told-2 : tie.Need-enum-told-2 invariant-loop decreases-loop
+enum-told-2 : tie.Need-enum_told-in_default-expression_part invariant-loop decreases-loop
 enum-told-2 c = search rules
 
 -- the first side of a condition
-first : (c : tie.After-known-told invariant-loop decreases-loop) → part_end c.before.before.before.before.before.before.args.table.now c.before.before.before.before.before.loop.i Expression c.before.before.before.before.before.before.args.seen.now ≡ some c.before.second.given.0.0
-first c = placed_at c.before.second.given.0.0 (part_end c.before.before.before.before.before.before.args.table.now c.before.before.before.before.before.loop.i Expression c.before.before.before.before.before.before.args.seen.now) (sym c.before.second.given.1 ∙ c.before.before.before.expression-part.ensures)
+first : (c : tie.In-At invariant-loop decreases-loop) → part_end c.before.before.before.before.before.before.args.table.now c.before.before.before.before.before.loop-k.i Expression c.before.before.before.before.before.before.args.seen.now ≡ some c.before.second-1.given.0.0
+first c = placed_at c.before.second-1.given.0.0 (part_end c.before.before.before.before.before.before.args.table.now c.before.before.before.before.before.loop-k.i Expression c.before.before.before.before.before.before.args.seen.now) (sym c.before.second-1.given.1 ∙ c.before.before.before.expression_part.ensures)
 
-returns-2 : tie.Need-returns-2 invariant-loop decreases-loop
+returns-2 : tie.Need-returns-in_default-expression_part invariant-loop decreases-loop
 returns-2 c =
-    let l = c.before.before.before.before.before.before.before.before.loop in
+    let l = c.before.before.before.before.before.before.before.before.loop-k in
     let ws = c.before.before.before.before.before.before.before.before.before.args.table.now in
     let s = c.before.before.before.before.before.before.before.before.before.args.seen.now in
-    let m = c.before.before.before.before.second.given.0.0 in
-    sym (ap placed (l.invariant ∙ second_missed ws s l.i l.k c.before.before.before.before.before.before.before.loop-test.true m (first c.before.before.before) (placed_nowhere (part_end ws m Expression s) (sym c.enum-told2.given.1 ∙ c.before.before.expression-part2.ensures))))
+    let m = c.before.before.before.before.second-1.given.0.0 in
+    sym (ap placed (l.invariant ∙ second_missed ws s l.i l.k c.before.before.before.before.before.before.before.loop-k-test.true m (first c.before.before.before) (placed_nowhere (part_end ws m Expression s) (sym c.enum_told-in_default-expression_part-1.given.1 ∙ c.before.before.expression_part-in-loop-k.ensures))))
 
-sub-k : tie.Need-overflow-sub-k invariant-loop decreases-loop
+sub-k : tie.Need-overflow_sub-k invariant-loop decreases-loop
 sub-k c = search rules
 
-loop-less : tie.Need-loop-smaller invariant-loop decreases-loop
+loop-less : tie.Need-loop-k-smaller invariant-loop decreases-loop
 loop-less c = search rules
 
-loop-again : tie.Need-loop-preserved invariant-loop decreases-loop
+loop-again : tie.Need-loop-k-preserved invariant-loop decreases-loop
 loop-again c =
-    let l = c.before.before.before.before.before.before.before.before.before.loop in
+    let l = c.before.before.before.before.before.before.before.before.before.loop-k in
     let ws = c.before.before.before.before.before.before.before.before.before.before.args.table.now in
     let s = c.before.before.before.before.before.before.before.before.before.before.args.seen.now in
-    let m = c.before.before.before.before.before.second.given.0.0 in
-    let e = c.before.end.given.0.0 in
-    l.invariant ∙ both_found ws s l.i l.k c.before.before.before.before.before.before.before.before.loop-test.true m (first c.before.before.before.before) e (placed_at e (part_end ws m Expression s) (sym c.before.end.given.1 ∙ c.before.before.before.expression-part2.ensures))
+    let m = c.before.before.before.before.before.second-1.given.0.0 in
+    let e = c.before.end-1.given.0.0 in
+    l.invariant ∙ both_found ws s l.i l.k c.before.before.before.before.before.before.before.before.loop-k-test.true m (first c.before.before.before.before) e (placed_at e (part_end ws m Expression s) (sym c.before.end-1.given.1 ∙ c.before.before.before.expression_part-in-loop-k.ensures))
 
-returns-3 : tie.Need-returns-3 invariant-loop decreases-loop
+returns-3 : tie.Need-returns invariant-loop decreases-loop
 returns-3 c =
-    let l = c.before.loop in
+    let l = c.before.loop-k in
     let a = c.before.before.args in
-    let z : l.k ≡ 0 = let h = c.loop-test.false in omega arith in
+    let z : l.k ≡ 0 = let h = c.loop-k-test.false in omega arith in
     sym (ap placed (l.invariant ∙ ap (λ (n : ℕ). conditions_end n a.table.now a.seen.now l.i) z))
 
 pub conditions_end_spec : {M : Type 1} → statement M
-conditions_end_spec =
-    tie.close
-    (tie.spec
+conditions_end_spec = tie.close (tie.spec
     invariant-loop
     decreases-loop
     loop-holds

@@ -3,14 +3,17 @@ use Rattle.table.proofs.CallLaw.{lookup_sizes, update_sizes, other_sizes}
 use Rattle.table.proofs.side.call_fixed.Statement.{statement}
 use Rattle.table.proofs.side.call_fixed.Tie as tie
 
-returns : tie.Need-returns
-returns c = (lookup_sizes c.before.args.c c.if1.true).0
+returns : tie.Need-returns-then-c-eq-LOOKUP
+returns c = (lookup_sizes c.before.args.c c.if-c-eq-LOOKUP.true).0
 
-returns-2 : tie.Need-returns-2
-returns-2 c = (update_sizes c.before.before.args.c c.if2.true).0
+returns-2 : tie.Need-returns-then-c-eq-UPDATE
+returns-2 c = (update_sizes c.before.before.args.c c.if-c-eq-UPDATE.true).0
 
-returns-3 : tie.Need-returns-3
-returns-3 c = (other_sizes c.before.before.args.c c.before.if1.false c.if2.false).0
+returns-3 : tie.Need-returns
+returns-3 c = (other_sizes c.before.before.args.c c.before.if-c-eq-LOOKUP.false c.if-c-eq-UPDATE.false).0
 
 pub call_fixed_spec : {M : Type 1} → statement M
-call_fixed_spec = tie.close (tie.spec returns returns-2 returns-3)
+call_fixed_spec = tie.close (tie.spec
+    returns
+    returns-2
+    returns-3)

@@ -10,45 +10,43 @@ use Rattle.table.proofs.KindLaw.{call_children, call_stops, call_on}
 use Rattle.table.proofs.side.call_turn.Statement.{statement}
 use Rattle.table.proofs.side.call_turn.Tie as tie
 
-add-expressions-end : tie.Need-overflow-add-expressions-end
+add-expressions-end : tie.Need-overflow_add-i
 add-expressions-end c = search rules
 
-expressions-end-requires : tie.Need-expressions-end-requires
+expressions-end-requires : tie.Need-expressions_end-requires
 expressions-end-requires c κs = let p = c.requires in (p.0.room, call_children p.0 c.args.seen.now, p.1)
 
-enum-known-e : tie.Need-enum-known-e
+enum-known-e : tie.Need-enum_known-e
 enum-known-e c = search rules
 
-enum_told : tie.Need-enum-told
+enum_told : tie.Need-enum_told-1
 enum_told c = search rules
 
-returns : tie.Need-returns
+returns : tie.Need-returns-in_default
 returns c =
     let u = c.before.before in
     let a = u.before.args in
-    call_stops u.before.requires.0 a.seen.now (subst (EndIs a.table.now Expression (a.i + 2) a.k a.seen.now a.seen.now) c.enum_told.given.1 u.expressions-end.ensures)
+    call_stops u.before.requires.0 a.seen.now (subst (EndIs a.table.now Expression (a.i + 2) a.k a.seen.now a.seen.now) c.enum_told-1.given.1 u.expressions_end.ensures)
 
-call-fixed-requires : tie.Need-call-fixed-requires
+call-fixed-requires : tie.Need-call_fixed-requires
 call-fixed-requires c κs = search rules
 
-call-leaves-requires : tie.Need-call-leaves-requires
+call-leaves-requires : tie.Need-call_leaves-requires
 call-leaves-requires c κs = search rules
 
-returns-2 : tie.Need-returns-2
+returns-2 : tie.Need-returns
 returns-2 c =
     let v = c.before.before in
     let u = v.before.before.before in
     let a = u.before.args in
-    let e = v.before.e.given.0.0 in
-    let m = v.before.e.given.0.1.0 in
-    let w : Ends a.table.now Expression (a.i + 2) a.k a.seen.now a.seen.now e m = subst (EndIs a.table.now Expression (a.i + 2) a.k a.seen.now a.seen.now) v.before.e.given.1 u.expressions-end.ensures in
-    subst⁻¹ (λ (n : ℕ). SideTurnOn a.table.now Right a.i a.seen.now a.seen.now e 0 n c.call-leaves.result m) c.before.call-fixed.ensures
-    (subst⁻¹ (λ (n : ℕ). SideTurnOn a.table.now Right a.i a.seen.now a.seen.now e 0 (fixed_call a.c) n m) c.call-leaves.ensures (call_on u.before.requires.0 a.seen.now e m w))
+    let e = v.before.e-1.given.0.0 in
+    let m = v.before.e-1.given.0.1.0 in
+    let w : Ends a.table.now Expression (a.i + 2) a.k a.seen.now a.seen.now e m = subst (EndIs a.table.now Expression (a.i + 2) a.k a.seen.now a.seen.now) v.before.e-1.given.1 u.expressions_end.ensures in
+    subst⁻¹ (λ (n : ℕ). SideTurnOn a.table.now Right a.i a.seen.now a.seen.now e 0 n c.call_leaves.result m) c.before.call_fixed.ensures
+    (subst⁻¹ (λ (n : ℕ). SideTurnOn a.table.now Right a.i a.seen.now a.seen.now e 0 (fixed_call a.c) n m) c.call_leaves.ensures (call_on u.before.requires.0 a.seen.now e m w))
 
 pub call_turn_spec : {M : Type 1} → statement M
-call_turn_spec =
-    tie.close
-    (tie.spec
+call_turn_spec = tie.close (tie.spec
     add-expressions-end
     expressions-end-requires
     enum-known-e

@@ -4,31 +4,29 @@ use Rattle.table.proofs.KindLaw.{literal_few, literal_later, literal_on, literal
 use Rattle.table.proofs.side.literal_turn.Statement.{statement}
 use Rattle.table.proofs.side.literal_turn.Tie as tie
 
-add-ground-terms : tie.Need-overflow-add-ground-terms
+add-ground-terms : tie.Need-overflow_add-i
 add-ground-terms c = search rules
 
-ground-terms-requires : tie.Need-ground-terms-requires
+ground-terms-requires : tie.Need-ground_terms-requires
 ground-terms-requires c κs = let p = c.requires in (p.0.room, literal_few p.0, p.1)
 
-enum-known-e : tie.Need-enum-known-e
+enum-known-e : tie.Need-enum_known-e
 enum-known-e c = search rules
 
-enum_told : tie.Need-enum-told
+enum_told : tie.Need-enum_told-1
 enum_told c = search rules
 
-returns : tie.Need-returns
-returns c = let u = c.before.before in literal_stops u.before.requires.0 u.ground-terms.ensures c.enum_told.given.1
+returns : tie.Need-returns-in_default
+returns c = let u = c.before.before in literal_stops u.before.requires.0 u.ground_terms.ensures c.enum_told-1.given.1
 
-sub-t7 : tie.Need-overflow-sub-t7
-sub-t7 c = let u = c.before.before.before in literal_later u.before.requires.0 u.ground-terms.ensures c.before.e.given.0.0 c.before.e.given.0.1.0 c.before.e.given.1
+sub-t7 : tie.Need-overflow_sub-result
+sub-t7 c = let u = c.before.before.before in literal_later u.before.requires.0 u.ground_terms.ensures c.before.e-1.given.0.0 c.before.e-1.given.0.1.0 c.before.e-1.given.1
 
-returns-2 : tie.Need-returns-2
-returns-2 c = let u = c.before.before.before in literal_on u.before.requires.0 u.ground-terms.ensures c.before.e.given.0.0 c.before.e.given.0.1.0 c.before.e.given.1
+returns-2 : tie.Need-returns
+returns-2 c = let u = c.before.before.before in literal_on u.before.requires.0 u.ground_terms.ensures c.before.e-1.given.0.0 c.before.e-1.given.0.1.0 c.before.e-1.given.1
 
 pub literal_turn_spec : {M : Type 1} → statement M
-literal_turn_spec =
-    tie.close
-    (tie.spec
+literal_turn_spec = tie.close (tie.spec
     add-ground-terms
     ground-terms-requires
     enum-known-e

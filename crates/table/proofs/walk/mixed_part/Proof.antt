@@ -11,69 +11,67 @@ use Rattle.table.proofs.PartLaw.{part_stops, part_fills, part_long, part_unmet, 
 use Rattle.table.proofs.walk.mixed_part.Statement.{statement}
 use Rattle.table.proofs.walk.mixed_part.Tie as tie
 
-returns : tie.Need-returns
-returns c = let a = c.before.args in (part_outside a.table.now a.at Expression a.seen.now c.if1.true).answer
+returns : tie.Need-returns-then-table-at
+returns c = let a = c.before.args in (part_outside a.table.now a.at Expression a.seen.now c.if-table-at.true).answer
 
-expressions-end-requires : tie.Need-expressions-end-requires
+expressions-end-requires : tie.Need-expressions_end-requires
 expressions-end-requires c κs = search rules
 
-enum-known-end : tie.Need-enum-known-end
+enum-known-end : tie.Need-enum_known-end
 enum-known-end c = search rules
 
-enum_told : tie.Need-enum-told
+enum_told : tie.Need-enum_told-1
 enum_told c = search rules
 
-returns-2 : tie.Need-returns-2
+returns-2 : tie.Need-returns-in_default
 returns-2 c =
     let u = c.before.before in
     let a = u.before.before.args in
-    (part_stops (subst (EndIs a.table.now Expression a.at 1 a.seen.now a.seen.now) c.enum_told.given.1 u.expressions-end.ensures)).answer
+    (part_stops (subst (EndIs a.table.now Expression a.at 1 a.seen.now a.seen.now) c.enum_told-1.given.1 u.expressions_end.ensures)).answer
 
 -- the place that was found
-reached : (c : tie.After-known-told) → Ends c.before.before.before.before.before.args.table.now Expression c.before.before.before.before.before.args.at 1 c.before.before.before.before.before.args.seen.now c.before.before.before.before.before.args.seen.now c.before.end.given.0.0 c.before.end.given.0.1.0
+reached : (c : tie.In-At) → Ends c.before.before.before.before.before.args.table.now Expression c.before.before.before.before.before.args.at 1 c.before.before.before.before.before.args.seen.now c.before.before.before.before.before.args.seen.now c.before.end-1.given.0.0 c.before.end-1.given.0.1.0
 reached c =
     let u = c.before.before.before in
     let a = u.before.before.args in
-    subst (EndIs a.table.now Expression a.at 1 a.seen.now a.seen.now) c.before.end.given.1 u.expressions-end.ensures
+    subst (EndIs a.table.now Expression a.at 1 a.seen.now a.seen.now) c.before.end-1.given.1 u.expressions_end.ensures
 
-sub-if2 : tie.Need-overflow-sub-if2
+sub-if2 : tie.Need-overflow_sub-end
 sub-if2 c = (reached c).reaches.later
 
-returns-3 : tie.Need-returns-3
-returns-3 c = let v = c.before in (part_long v.before.before.before.before.if1.false (reached v).reaches c.if2.true).answer
+returns-3 : tie.Need-returns-then-end-at-gt-MAX_TERM_WORDS
+returns-3 c = let v = c.before in (part_long v.before.before.before.before.if-table-at.false (reached v).reaches c.if-end-at-gt-MAX_TERM_WORDS.true).answer
 
-in-order-requires : tie.Need-in-order-requires
-in-order-requires c κs = let v = c.before.before in part_fills v.before.before.before.before.if1.false (reached v).reaches
+in-order-requires : tie.Need-in_order-requires
+in-order-requires c κs = let v = c.before.before in part_fills v.before.before.before.before.if-table-at.false (reached v).reaches
 
 -- what was answered of the order
-said : (c : tie.After-in-order) (b : Bool) → not c.in_order.result ≡ not b → InOrder c.before.before.before.before.before.before.before.before.args.table.now c.before.before.before.before.before.before.before.before.args.at c.before.before.before.before.end.given.0.0 b
+said : (c : tie.After-in_order) (b : Bool) → not c.in_order.result ≡ not b → InOrder c.before.before.before.before.before.before.before.before.args.table.now c.before.before.before.before.before.before.before.before.args.at c.before.before.before.before.end-1.given.0.0 b
 said c b e =
     let v = c.before.before.before in
     let a = v.before.before.before.before.before.args in
-    subst (InOrder a.table.now a.at v.before.end.given.0.0) (answered c.in_order.result b e) c.in_order.ensures
+    subst (InOrder a.table.now a.at v.before.end-1.given.0.0) (answered c.in_order.result b e) c.in_order.ensures
 
-returns-4 : tie.Need-returns-4
+returns-4 : tie.Need-returns-then-not-in_order
 returns-4 c =
     let w = c.before.before.before in
     let v = w.before in
-    (part_falls v.before.before.before.before.if1.false (reached v).reaches w.if2.false (said c.before false c.if4.true)).answer
+    (part_falls v.before.before.before.before.if-table-at.false (reached v).reaches w.if-end-at-gt-MAX_TERM_WORDS.false (said c.before false c.if-not-in_order.true-raw)).answer
 
-returns-5 : tie.Need-returns-5
+returns-5 : tie.Need-returns-else-not-in_order
 returns-5 c =
     let w = c.before.before.before in
     let v = w.before in
-    (part_rises v.before.before.before.before.if1.false (reached v).reaches w.if2.false (said c.before true c.if4.false)).answer
+    (part_rises v.before.before.before.before.if-table-at.false (reached v).reaches w.if-end-at-gt-MAX_TERM_WORDS.false (said c.before true c.if-not-in_order.false-raw)).answer
 
-returns-6 : tie.Need-returns-6
+returns-6 : tie.Need-returns-else-met
 returns-6 c =
     let w = c.before in
     let v = w.before in
-    (part_unmet v.before.before.before.before.if1.false (reached v).reaches w.if2.false ((reached v).order.none c.if3.false)).answer
+    (part_unmet v.before.before.before.before.if-table-at.false (reached v).reaches w.if-end-at-gt-MAX_TERM_WORDS.false ((reached v).order.none c.if-met.false)).answer
 
 pub mixed_part_spec : {M : Type 1} → statement M
-mixed_part_spec =
-    tie.close
-    (tie.spec
+mixed_part_spec = tie.close (tie.spec
     returns
     expressions-end-requires
     enum-known-end

@@ -4,27 +4,31 @@ use Rattle.term.proofs.MetLaw.{all_tagged, some_met}
 use Rattle.term.proofs.ground.ground_terms.Statement.{statement}
 use Rattle.term.proofs.ground.ground_terms.Tie as tie
 
-tagged-terms-requires : tie.Need-tagged-terms-requires
+tagged-terms-requires : tie.Need-tagged_terms-reached-requires
 tagged-terms-requires c κs = search rules
 
-returns : tie.Need-returns
+returns : tie.Need-returns-then-reached-eq0
 returns c =
     let u = c.before.before in
     let a = u.before.args in
-    all_tagged a.s.now a.at a.count u.tagged-terms.result u.tagged-terms.ensures c.if1.true
+    all_tagged a.s.now a.at a.count u.tagged_terms-reached.result u.tagged_terms-reached.ensures c.if-reached-eq0.true
 
-ground-mixed-requires : tie.Need-ground-mixed-requires
+ground-mixed-requires : tie.Need-ground_mixed-requires
 ground-mixed-requires c κs = search rules
 
 met-requires : tie.Need-met-requires
 met-requires c κs = search rules
 
-returns-2 : tie.Need-returns-2
+returns-2 : tie.Need-returns
 returns-2 c =
     let u = c.before.before.before.before in
     let a = u.before.args in
-    some_met a.s.now a.at a.count u.tagged-terms.result u.tagged-terms.ensures c.before.ground-mixed.result c.met.result c.before.ground-mixed.ensures c.met.ensures
+    some_met a.s.now a.at a.count u.tagged_terms-reached.result u.tagged_terms-reached.ensures c.before.ground_mixed.result c.met.result c.before.ground_mixed.ensures c.met.ensures
 
 pub ground_terms_spec : {M : Type 1} → statement M
-ground_terms_spec =
-    tie.close (tie.spec tagged-terms-requires returns ground-mixed-requires met-requires returns-2)
+ground_terms_spec = tie.close (tie.spec
+    tagged-terms-requires
+    returns
+    ground-mixed-requires
+    met-requires
+    returns-2)

@@ -5,17 +5,21 @@ use Rattle.term.specs.TermEnd.{met_at}
 use Rattle.term.proofs.ground.met.Statement.{statement}
 use Rattle.term.proofs.ground.met.Tie as tie
 
-enum-known-p : tie.Need-enum-known-p
+enum-known-p : tie.Need-enum_known-p
 enum-known-p c = search rules
 
-enum_told : tie.Need-enum-told
+enum_told : tie.Need-enum_told-1
 enum_told c = search rules
 
-returns : tie.Need-returns
-returns c = sym (ap met_at c.before.p.given.1)
+returns : tie.Need-returns-in-At
+returns c = sym (ap met_at c.before.p-1.given.1)
 
-returns-2 : tie.Need-returns-2
+returns-2 : tie.Need-returns-in-Nowhere
 returns-2 c = search rules
 
 pub met_spec : {M : Type 1} → statement M
-met_spec = tie.close (tie.spec enum-known-p enum_told returns returns-2)
+met_spec = tie.close (tie.spec
+    enum-known-p
+    enum_told
+    returns
+    returns-2)

@@ -22,63 +22,63 @@ use Rattle.term.proofs.OrderLaw.{Ordering, ordering_start, ordering_end, orderin
 use Rattle.term.proofs.order.in_order.Statement.{statement}
 use Rattle.term.proofs.order.in_order.Tie as tie
 
-abbrev invariant-loop : tie.invariant-loop
+abbrev invariant-loop : tie.invariant-loop-i
 invariant-loop s from to i₀ i = Ordering s from to i
 
-abbrev decreases-loop : tie.decreases-loop
+abbrev decreases-loop : tie.decreases-loop-i
 decreases-loop s from to i₀ i = to - i
 
-loop-holds : tie.Need-loop-init invariant-loop decreases-loop
+loop-holds : tie.Need-loop-i-init invariant-loop decreases-loop
 loop-holds c = ordering_start c.requires
 
 -- two words are left
-room : (c : tie.In-loop invariant-loop decreases-loop) → c.before.loop.i + 2 ≤ length c.before.before.args.s.now
-room c = (front_words (ordering_here c.before.loop.invariant c.loop-test.true)).room
+room : (c : tie.In-loop-i invariant-loop decreases-loop) → c.before.loop-i.i + 2 ≤ length c.before.before.args.s.now
+room c = (front_words (ordering_here c.before.loop-i.invariant c.loop-i-test.true)).room
 
 word-requires : tie.Need-word-requires invariant-loop decreases-loop
 word-requires c κs = let r = room c in omega arith
 
-add-rises : tie.Need-overflow-add-rises invariant-loop decreases-loop
+add-rises : tie.Need-overflow_add-i invariant-loop decreases-loop
 add-rises c = let r = room c.before.before in omega arith
 
-add-word : tie.Need-overflow-add-word invariant-loop decreases-loop
+add-word : tie.Need-overflow_add-i-then-word-eq-DICTIONARY invariant-loop decreases-loop
 add-word c = let r = room c.before.before in omega arith
 
-word-requires-2 : tie.Need-word-requires-2 invariant-loop decreases-loop
+word-requires-2 : tie.Need-word-requires-then-word-eq-DICTIONARY invariant-loop decreases-loop
 word-requires-2 c κs = let r = room c.before.before in omega arith
 
 -- a dictionary stands at i, with so many entries
-module _ (c : tie.After-word2 invariant-loop decreases-loop) where
+module _ (c : tie.After-word-then-word-eq-DICTIONARY invariant-loop decreases-loop) where
   abbrev words : List ℤ
   words = c.before.before.before.before.before.args.s.now
 
   abbrev i : ℕ
-  i = c.before.before.before.before.loop.i
+  i = c.before.before.before.before.loop-i.i
 
   abbrev count : ℕ
-  count = nat_abs (to_z w64 (of_z w64 c.word2.result))
+  count = nat_abs (to_z w64 (of_z w64 c.word-then-word-eq-DICTIONARY.result))
 
   abbrev from_here : Ordering words c.before.before.before.before.before.args.from c.before.before.before.before.before.args.to i
-  from_here = c.before.before.before.before.loop.invariant
+  from_here = c.before.before.before.before.loop-i.invariant
 
   abbrev more_left : i < c.before.before.before.before.before.args.to
-  more_left = c.before.before.before.loop-test.true
+  more_left = c.before.before.before.loop-i-test.true
 
   tag : get_or words i (pos 0) ≡ pos dictionary_tag
   tag =
       let f : SFits w64 c.before.before.word.result = search rules in
-      sym c.before.before.word.ensures ∙ same_bits c.before.before.word.result (pos dictionary_tag) f (record { sfits = lit< tt }) c.before.if1.true
+      sym c.before.before.word.ensures ∙ same_bits c.before.before.word.result (pos dictionary_tag) f (record { sfits = lit< tt }) c.before.if-word-eq-DICTIONARY.true
 
-  number : Natural c.word2.result 0
+  number : Natural c.word-then-word-eq-DICTIONARY.result 0
   number =
       let o = ordering_here from_here more_left in
-      let f : SFits w64 c.word2.result = search rules in
-      natural c.word2.result 0 f (ap (λ (z : ℤ). lt_z z (pos 0)) (to_z-of_z w64 c.word2.result f ∙ (c.word2.ensures ∙ front_count o tag)) ∙ le-ltb (front_dictionary o tag).0 0 (omega arith))
+      let f : SFits w64 c.word-then-word-eq-DICTIONARY.result = search rules in
+      natural c.word-then-word-eq-DICTIONARY.result 0 f (ap (λ (z : ℤ). lt_z z (pos 0)) (to_z-of_z w64 c.word-then-word-eq-DICTIONARY.result f ∙ (c.word-then-word-eq-DICTIONARY.ensures ∙ front_count o tag)) ∙ le-ltb (front_dictionary o tag).0 0 (omega arith))
 
   counted : get_or words (i + 1) (pos 0) ≡ pos count
-  counted = sym c.word2.ensures ∙ (sym number.is ∙ ap pos (sym number.gives))
+  counted = sym c.word-then-word-eq-DICTIONARY.ensures ∙ (sym number.is ∙ ap pos (sym number.gives))
 
-cast-rises : tie.Need-overflow-cast-rises invariant-loop decreases-loop
+cast-rises : tie.Need-overflow_cast-word invariant-loop decreases-loop
 cast-rises c = (number c).cast
 
 rises-requires : tie.Need-rises-requires invariant-loop decreases-loop
@@ -88,41 +88,39 @@ rises-requires c κs = record { forest = (ordering_here (from_here c) (more_left
 said : (c : tie.After-rises invariant-loop decreases-loop) (b : Bool) → not c.rises.result ≡ not b → Rises (words c.before) (i c.before + 2) (count c.before) b
 said c b e = subst (Rises (words c.before) (i c.before + 2) (count c.before)) (answered c.rises.result b e) c.rises.ensures
 
-returns : tie.Need-returns invariant-loop decreases-loop
+returns : tie.Need-returns-then-not-rises invariant-loop decreases-loop
 returns c =
     let v = c.before.before in
-    ordering_stop (from_here v) (more_left v) (tag v) (count v) (counted v) (said c.before false c.if2.true)
+    ordering_stop (from_here v) (more_left v) (tag v) (count v) (counted v) (said c.before false c.if-not-rises.true-raw)
 
-add-i : tie.Need-overflow-add-i invariant-loop decreases-loop
+add-i : tie.Need-overflow_add-i-in-loop-i invariant-loop decreases-loop
 add-i c = let r = room c.before.before in omega arith
 
-loop-less : tie.Need-loop-smaller invariant-loop decreases-loop
-loop-less c = let r = front_room (ordering_here c.before.before.before.loop.invariant c.before.before.loop-test.true) in let h = c.before.before.loop-test.true in omega arith
+loop-less : tie.Need-loop-i-smaller invariant-loop decreases-loop
+loop-less c = let r = front_room (ordering_here c.before.before.before.loop-i.invariant c.before.before.loop-i-test.true) in let h = c.before.before.loop-i-test.true in omega arith
 
 -- on behind a dictionary in order, and behind any other node
-dictionary_on : (c : tie.Else2 invariant-loop decreases-loop) → Ordering (words c.before.before) c.before.before.before.before.before.before.before.args.from c.before.before.before.before.before.before.before.args.to (i c.before.before + 2)
+dictionary_on : (c : tie.Else-not-rises invariant-loop decreases-loop) → Ordering (words c.before.before) c.before.before.before.before.before.before.before.args.from c.before.before.before.before.before.before.before.args.to (i c.before.before + 2)
 dictionary_on c =
     let v = c.before.before in
-    ordering_next (from_here v) (more_left v) (tag v) (count v) (counted v) (said c.before true c.if2.false)
+    ordering_next (from_here v) (more_left v) (tag v) (count v) (counted v) (said c.before true c.if-not-rises.false-raw)
 
-other_on : (c : tie.Else1 invariant-loop decreases-loop) → Ordering c.before.before.before.before.args.s.now c.before.before.before.before.args.from c.before.before.before.before.args.to (c.before.before.before.loop.i + 2)
+other_on : (c : tie.Else-word-eq-DICTIONARY invariant-loop decreases-loop) → Ordering c.before.before.before.before.args.s.now c.before.before.before.before.args.from c.before.before.before.before.args.to (c.before.before.before.loop-i.i + 2)
 other_on c =
     let u = c.before.before in
-    ordering_other u.before.loop.invariant u.loop-test.true (λ e. c.if1.false (ap (of_z w64) (c.before.word.ensures ∙ e)))
+    ordering_other u.before.loop-i.invariant u.loop-i-test.true (λ e. c.if-word-eq-DICTIONARY.false (ap (of_z w64) (c.before.word.ensures ∙ e)))
 
-loop-again : tie.Need-loop-preserved invariant-loop decreases-loop
+loop-again : tie.Need-loop-i-preserved invariant-loop decreases-loop
 loop-again c =
     ⊎_elim
     (λ w. dictionary_on (record { before = record { before = record { before = record { before = c.before; if1 = w.0 }; word2 = w.1 }; rises = w.2 }; if2 = w.3 }))
-    (λ w. other_on (record { before = c.before; if1 = w })) c.if1.branch
+    (λ w. other_on (record { before = c.before; if1 = w })) c.if-word-eq-DICTIONARY.branch
 
-returns-2 : tie.Need-returns-2 invariant-loop decreases-loop
-returns-2 c = ordering_end c.before.loop.invariant c.loop-test.false
+returns-2 : tie.Need-returns invariant-loop decreases-loop
+returns-2 c = ordering_end c.before.loop-i.invariant c.loop-i-test.false
 
 pub in_order_spec : {M : Type 1} → statement M
-in_order_spec =
-    tie.close
-    (tie.spec
+in_order_spec = tie.close (tie.spec
     invariant-loop
     decreases-loop
     loop-holds

@@ -8,4 +8,5 @@ unfolding root_of
 returns c = rw (to_z-of_z c.ranges.z)
 
 pub a_whole_spec : {M : Type 1} → statement M
-a_whole_spec = tie.close (tie.spec returns)
+a_whole_spec = tie.close (tie.spec
+    returns)

@@ -8,4 +8,5 @@ unfolding root_of
 returns c = refl
 
 pub an_empty_spec : {M : Type 1} → statement M
-an_empty_spec = tie.close (tie.spec returns)
+an_empty_spec = tie.close (tie.spec
+    returns)

@@ -8,4 +8,5 @@ unfolding root_of
 returns c = refl
 
 pub an_error_spec : {M : Type 1} → statement M
-an_error_spec = tie.close (tie.spec returns)
+an_error_spec = tie.close (tie.spec
+    returns)

@@ -8,4 +8,5 @@ returns : tie.Need-returns
 returns c = ap₂ ◌&&◌ (eq_bits c.args.a c.args.kind c.ranges.a.sfits c.ranges.kind.sfits) (eq_bits c.args.b c.args.kind c.ranges.b.sfits c.ranges.kind.sfits)
 
 pub both_spec : {M : Type 1} → statement M
-both_spec = tie.close (tie.spec returns)
+both_spec = tie.close (tie.spec
+    returns)

@@ -20,88 +20,86 @@ meant x y = whole_term (◌+ℤ◌ x y)
 both-requires : tie.Need-both-requires
 both-requires c κs = search rules
 
-an-error-requires : tie.Need-an-error-requires
+an-error-requires : tie.Need-an_error-requires
 an-error-requires c κs = search rules
 
-returns : tie.Need-returns
+returns : tie.Need-returns-then-not-both
 unfolding applied
 returns c =
     let b = c.before.before in
     let s = b.before in
-    c.an-error.ensures ∙ two_value wholes s.args.x s.args.y s.ranges.a s.ranges.b b.both.ensures meant false (not-true b.both.result c.before.if1.true)
+    c.an_error.ensures ∙ two_value wholes s.args.x s.args.y s.ranges.a s.ranges.b b.both.ensures meant false (not-true b.both.result c.before.if-not-both.true-raw)
 
 -- of two whole numbers
-kinds : (e : tie.Else1) → root_of (whole_term (◌+ℤ◌ e.before.before.args.x e.before.before.args.y)).label ≡ root_of (applied 8 (label_at e.before.before.args.a e.before.before.args.x) (label_at e.before.before.args.b e.before.before.args.y) error)
+kinds : (e : tie.Else-not-both) → root_of (whole_term (◌+ℤ◌ e.before.before.args.x e.before.before.args.y)).label ≡ root_of (applied 8 (label_at e.before.before.args.a e.before.before.args.x) (label_at e.before.before.args.b e.before.before.args.y) error)
 unfolding applied
-kinds e = let s = e.before.before in two_value wholes s.args.x s.args.y s.ranges.a s.ranges.b e.before.both.ensures meant true (not-false e.before.both.result e.if1.false)
+kinds e = let s = e.before.before in two_value wholes s.args.x s.args.y s.ranges.a s.ranges.b e.before.both.ensures meant true (not-false e.before.both.result e.if-not-both.false-raw)
 
 -- what the test says, of a negative y and of any other
-negative : (c : tie.Then2) → le_z (back (least -ℤ back c.before.before.before.args.y)) (back c.before.before.before.args.x) ≡ in_word (◌+ℤ◌ (back c.before.before.before.args.x) (back c.before.before.before.args.y))
-negative c = sum_below _ _ (back_fits c.before.before.before.ranges.x) (back_fits c.before.before.before.ranges.y) c.if2.true
+negative : (c : tie.Then-y-lt0) → le_z (back (least -ℤ back c.before.before.before.args.y)) (back c.before.before.before.args.x) ≡ in_word (◌+ℤ◌ (back c.before.before.before.args.x) (back c.before.before.before.args.y))
+negative c = sum_below _ _ (back_fits c.before.before.before.ranges.x) (back_fits c.before.before.before.ranges.y) c.if-y-lt0.true
 
-natural : (c : tie.Else2) → le_z (back c.before.before.before.args.x) (back (most -ℤ back c.before.before.before.args.y)) ≡ in_word (◌+ℤ◌ (back c.before.before.before.args.x) (back c.before.before.before.args.y))
-natural c = sum_above _ _ (back_fits c.before.before.before.ranges.x) (back_fits c.before.before.before.ranges.y) c.if2.false
+natural : (c : tie.Else-y-lt0) → le_z (back c.before.before.before.args.x) (back (most -ℤ back c.before.before.before.args.y)) ≡ in_word (◌+ℤ◌ (back c.before.before.before.args.x) (back c.before.before.before.args.y))
+natural c = sum_above _ _ (back_fits c.before.before.before.ranges.x) (back_fits c.before.before.before.ranges.y) c.if-y-lt0.false
 
-sub-if3 : tie.Need-overflow-sub-if3
-sub-if3 c = room_below _ _ (back_fits c.before.before.before.ranges.x) (back_fits c.before.before.before.ranges.y) c.if2.true
+sub-if3 : tie.Need-overflow_sub-y
+sub-if3 c = room_below _ _ (back_fits c.before.before.before.ranges.x) (back_fits c.before.before.before.ranges.y) c.if-y-lt0.true
 
-add-a-whole : tie.Need-overflow-add-a-whole
-add-a-whole c = in_word_lem _ (sym (negative c.before) ∙ c.if3.true)
+add-a-whole : tie.Need-overflow_add-x
+add-a-whole c = in_word_lem _ (sym (negative c.before) ∙ c.if-y-x.true)
 
-a-whole-requires : tie.Need-a-whole-requires
+a-whole-requires : tie.Need-a_whole-requires
 a-whole-requires c κs = search rules
 
-returns-2 : tie.Need-returns-2
+returns-2 : tie.Need-returns-then-y-x
 returns-2 c =
     let t = c.before in
     let u = t.before in
     let e = u.before in
     let s = e.before.before in
-    c.a-whole.ensures ∙ (ap root_of (whole_in _ _ (ap₂ ◌+ℤ◌ (to_z-of_z s.ranges.x) (to_z-of_z s.ranges.y)) (sym (negative u) ∙ t.if3.true)) ∙ kinds e)
+    c.a_whole.ensures ∙ (ap root_of (whole_in _ _ (ap₂ ◌+ℤ◌ (to_z-of_z s.ranges.x) (to_z-of_z s.ranges.y)) (sym (negative u) ∙ t.if-y-x.true)) ∙ kinds e)
 
-an-error-requires-2 : tie.Need-an-error-requires-2
+an-error-requires-2 : tie.Need-an_error-requires-then-y-lt0
 an-error-requires-2 c κs = search rules
 
-returns-3 : tie.Need-returns-3
+returns-3 : tie.Need-returns-then-y-lt0
 returns-3 c =
     let t = c.before in
     let u = t.before in
     let e = u.before in
     let s = e.before.before in
-    c.an-error2.ensures ∙ (ap root_of (whole_out _ _ (ap₂ ◌+ℤ◌ (to_z-of_z s.ranges.x) (to_z-of_z s.ranges.y)) (sym (negative u) ∙ t.if3.false)) ∙ kinds e)
+    c.an_error-then-y-lt0.ensures ∙ (ap root_of (whole_out _ _ (ap₂ ◌+ℤ◌ (to_z-of_z s.ranges.x) (to_z-of_z s.ranges.y)) (sym (negative u) ∙ t.if-y-x.false)) ∙ kinds e)
 
-sub-if4 : tie.Need-overflow-sub-if4
-sub-if4 c = room_above _ _ (back_fits c.before.before.before.ranges.x) (back_fits c.before.before.before.ranges.y) c.if2.false
+sub-if4 : tie.Need-overflow_sub-y-2
+sub-if4 c = room_above _ _ (back_fits c.before.before.before.ranges.x) (back_fits c.before.before.before.ranges.y) c.if-y-lt0.false
 
-add-a-whole-2 : tie.Need-overflow-add-a-whole-2
-add-a-whole-2 c = in_word_lem _ (sym (natural c.before) ∙ c.if4.true)
+add-a-whole-2 : tie.Need-overflow_add-x-then-x-y
+add-a-whole-2 c = in_word_lem _ (sym (natural c.before) ∙ c.if-x-y.true)
 
-a-whole-requires-2 : tie.Need-a-whole-requires-2
+a-whole-requires-2 : tie.Need-a_whole-requires-then-x-y
 a-whole-requires-2 c κs = search rules
 
-returns-4 : tie.Need-returns-4
+returns-4 : tie.Need-returns-then-x-y
 returns-4 c =
     let t = c.before in
     let u = t.before in
     let e = u.before in
     let s = e.before.before in
-    c.a-whole2.ensures ∙ (ap root_of (whole_in _ _ (ap₂ ◌+ℤ◌ (to_z-of_z s.ranges.x) (to_z-of_z s.ranges.y)) (sym (natural u) ∙ t.if4.true)) ∙ kinds e)
+    c.a_whole-then-x-y.ensures ∙ (ap root_of (whole_in _ _ (ap₂ ◌+ℤ◌ (to_z-of_z s.ranges.x) (to_z-of_z s.ranges.y)) (sym (natural u) ∙ t.if-x-y.true)) ∙ kinds e)
 
-an-error-requires-3 : tie.Need-an-error-requires-3
+an-error-requires-3 : tie.Need-an_error-requires-2
 an-error-requires-3 c κs = search rules
 
-returns-5 : tie.Need-returns-5
+returns-5 : tie.Need-returns
 returns-5 c =
     let t = c.before in
     let u = t.before in
     let e = u.before in
     let s = e.before.before in
-    c.an-error3.ensures ∙ (ap root_of (whole_out _ _ (ap₂ ◌+ℤ◌ (to_z-of_z s.ranges.x) (to_z-of_z s.ranges.y)) (sym (natural u) ∙ t.if4.false)) ∙ kinds e)
+    c.an_error-2.ensures ∙ (ap root_of (whole_out _ _ (ap₂ ◌+ℤ◌ (to_z-of_z s.ranges.x) (to_z-of_z s.ranges.y)) (sym (natural u) ∙ t.if-x-y.false)) ∙ kinds e)
 
 pub plus_spec : {M : Type 1} → statement M
-plus_spec =
-    tie.close
-    (tie.spec
+plus_spec = tie.close (tie.spec
     both-requires
     an-error-requires
     returns

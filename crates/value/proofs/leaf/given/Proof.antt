@@ -14,4 +14,5 @@ returns c =
     rw (to_z-of_z f, to_z-of_z g)
 
 pub given_spec : {M : Type 1} → statement M
-given_spec = tie.close (tie.spec returns)
+given_spec = tie.close (tie.spec
+    returns)

@@ -16,12 +16,12 @@ over : (s : tie.Start) → Divisor s.args.c
 over s = divisor s.args.c s.requires.1 s.requires.2
 
 -- what the amount is rounded to
-rounded : (c : tie.After-nearest-amount) → let s = c.before.before in c.nearest-amount.result ≡ nearest_nat (nat_abs s.args.z) (nat_abs s.args.c)
+rounded : (c : tie.After-nearest_amount-rounded) → let s = c.before.before in c.nearest_amount-rounded.result ≡ nearest_nat (nat_abs s.args.z) (nat_abs s.args.c)
 rounded c =
     let s = c.before.before in
-    c.nearest-amount.ensures ∙ ap₂ nearest_nat (c.before.amount.ensures ∙ ap nat_abs (to_z-of_z s.ranges.z)) (ap nat_abs (to_z-of_z s.ranges.c))
+    c.nearest_amount-rounded.ensures ∙ ap₂ nearest_nat (c.before.amount-n.ensures ∙ ap nat_abs (to_z-of_z s.ranges.z)) (ap nat_abs (to_z-of_z s.ranges.c))
 
-rounded_size : (c : tie.After-nearest-amount) → c.nearest-amount.result < 2 ^ 63
+rounded_size : (c : tie.After-nearest_amount-rounded) → c.nearest_amount-rounded.result < 2 ^ 63
 rounded_size c =
     let s = c.before.before in
     let r = rounded c in
@@ -30,35 +30,42 @@ rounded_size c =
     omega arith
 
 -- the same as a signed number
-signed : (c : tie.After-nearest-amount) → let s = c.before.before in to_z w64 c.nearest-amount.result ≡ pos (nearest_nat (nat_abs s.args.z) (nat_abs s.args.c))
+signed : (c : tie.After-nearest_amount-rounded) → let s = c.before.before in to_z w64 c.nearest_amount-rounded.result ≡ pos (nearest_nat (nat_abs s.args.z) (nat_abs s.args.c))
 signed c = to_z_pos w64 (rounded_size c) ∙ ap pos (rounded c)
 
-signed_size : (c : tie.After-nearest-amount) → nat_abs (to_z w64 c.nearest-amount.result) < 2 ^ 63
+signed_size : (c : tie.After-nearest_amount-rounded) → nat_abs (to_z w64 c.nearest_amount-rounded.result) < 2 ^ 63
 signed_size c = rw (to_z_pos w64 (rounded_size c)) (rounded_size c)
 
-amount-requires : tie.Need-amount-requires
+amount-requires : tie.Need-amount-n-requires
 amount-requires c κs = rw (to_z-of_z c.ranges.z) c.requires.0
 
-cast-d : tie.Need-overflow-cast-d
+cast-d : tie.Need-overflow_cast-d
 cast-d c = let s = c.before in rw (to_z-of_z s.ranges.c) ((over s).positive, let h = (over s).high in omega arith)
 
-nearest-amount-requires : tie.Need-nearest-amount-requires
+nearest-amount-requires : tie.Need-nearest_amount-rounded-requires
 nearest-amount-requires c κs = let s = c.before in rw (to_z-of_z s.ranges.c) ((over s).low, (over s).high)
 
-cast-rounded : tie.Need-overflow-cast-rounded
+cast-rounded : tie.Need-overflow_cast-rounded
 cast-rounded c = let h = rounded_size c in record { sfits = omega arith }
 
-sub-result : tie.Need-overflow-sub-result
-sub-result c = opposite_fits (to_z w64 c.before.nearest-amount.result) (signed_size c.before)
+sub-result : tie.Need-overflow_sub-result
+sub-result c = opposite_fits (to_z w64 c.before.nearest_amount-rounded.result) (signed_size c.before)
 
-returns : tie.Need-returns
+returns : tie.Need-returns-then-z-lt0
 returns c =
     let a = c.before in
     let s = a.before.before in
-    to_z-of_z (opposite_fits (to_z w64 a.nearest-amount.result) (signed_size a)) ∙ ap (λ y. pos 0 -ℤ y) (signed a) ∙ sign_back s.args.z s.args.c (rw (to_z-of_z s.ranges.z) at c.if1.true)
+    to_z-of_z (opposite_fits (to_z w64 a.nearest_amount-rounded.result) (signed_size a)) ∙ ap (λ y. pos 0 -ℤ y) (signed a) ∙ sign_back s.args.z s.args.c (rw (to_z-of_z s.ranges.z) at c.if-z-lt0.true)
 
-returns-2 : tie.Need-returns-2
-returns-2 c = let s = c.before.before.before in signed c.before ∙ sign_kept s.args.z s.args.c (rw (to_z-of_z s.ranges.z) at c.if1.false)
+returns-2 : tie.Need-returns
+returns-2 c = let s = c.before.before.before in signed c.before ∙ sign_kept s.args.z s.args.c (rw (to_z-of_z s.ranges.z) at c.if-z-lt0.false)
 
 pub nearest_spec : {M : Type 1} → statement M
-nearest_spec = tie.close (tie.spec amount-requires cast-d nearest-amount-requires cast-rounded sub-result returns returns-2)
+nearest_spec = tie.close (tie.spec
+    amount-requires
+    cast-d
+    nearest-amount-requires
+    cast-rounded
+    sub-result
+    returns
+    returns-2)

@@ -5,18 +5,22 @@ use Rattle.value.proofs.WordsLaw.{part_is}
 use Rattle.value.proofs.same.words_of.Statement.{statement}
 use Rattle.value.proofs.same.words_of.Tie as tie
 
-enum_told : tie.Need-enum-told
+enum_told : tie.Need-enum_told-1
 enum_told c = search rules
 
 part-requires : tie.Need-part-requires
 part-requires c κs = search rules
 
-returns : tie.Need-returns
+returns : tie.Need-returns-in-Computed
 unfolding value_words own_words
-returns c = c.before.before.requires.1 ∙ rw c.enum_told.given.1
+returns c = c.before.before.requires.1 ∙ rw c.enum_told-1.given.1
 
-returns-2 : tie.Need-returns-2
+returns-2 : tie.Need-returns-in_default
 returns-2 c = c.part.ensures ∙ part_is _ _ c.before.before.args.v c.before.match.keys2
 
 pub words_of_spec : {M : Type 1} → statement M
-words_of_spec = tie.close (tie.spec enum_told part-requires returns returns-2)
+words_of_spec = tie.close (tie.spec
+    enum_told
+    part-requires
+    returns
+    returns-2)

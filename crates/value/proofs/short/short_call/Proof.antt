@@ -64,41 +64,41 @@ room s =
     let r = (head_words _ _ h.b.label h.b.children nil (second_at s _ _ _ _ k).placed.stands).room in
     omega arith
 
-code_is : (c : tie.After-word) (n : ℕ) → n < length functions → get_or c.before.args.table.now (c.before.args.at + 1) (pos 0) ≡ pos n → nat_abs (to_z w64 (of_z w64 c.word.result)) ≡ n
-code_is c n h d = abs_back c.word.result n (c.word.ensures ∙ d) (omega arith)
+code_is : (c : tie.After-word-code) (n : ℕ) → n < length functions → get_or c.before.args.table.now (c.before.args.at + 1) (pos 0) ≡ pos n → nat_abs (to_z w64 (of_z w64 c.word-code.result)) ≡ n
+code_is c n h d = abs_back c.word-code.result n (c.word-code.ensures ∙ d) (omega arith)
 
 -- the words handed over are words
-fits_first : (c : tie.After-short-root) → SFits w64 c.short-root.result.tag × SFits w64 c.short-root.result.datum
+fits_first : (c : tie.After-short_root-a) → SFits w64 c.short_root-a.result.tag × SFits w64 c.short_root-a.result.datum
 fits_first c = (search rules, search rules)
 
-fits_second : (c : tie.After-short-root2) → SFits w64 c.short-root2.result.tag × SFits w64 c.short-root2.result.datum
+fits_second : (c : tie.After-short_root-b) → SFits w64 c.short_root-b.result.tag × SFits w64 c.short_root-b.result.datum
 fits_second c = (search rules, search rules)
 
-add-word : tie.Need-overflow-add-word
+add-word : tie.Need-overflow_add-at
 add-word c = let h = room c in omega arith
 
-word-requires : tie.Need-word-requires
+word-requires : tie.Need-word-code-requires
 word-requires c κs = let h = room c in omega arith
 
-cast-code : tie.Need-overflow-cast-code
+cast-code : tie.Need-overflow_cast-code
 cast-code c =
     let k = the_call c.before in
     let h = k.small in
-    cast_ok w64 c.word.result k.code (c.word.ensures ∙ k.datum) (omega arith) (record { fits = omega arith })
+    cast_ok w64 c.word-code.result k.code (c.word-code.ensures ∙ k.datum) (omega arith) (record { fits = omega arith })
 
-add-short-root : tie.Need-overflow-add-short-root
+add-short-root : tie.Need-overflow_add-at-2
 add-short-root c = let h = room c.before in omega arith
 
-short-root-requires : tie.Need-short-root-requires
+short-root-requires : tie.Need-short_root-a-requires
 short-root-requires c κs =
     let s = c.before in
     let h = both s _ _ _ _ (the_call s) in
     record { ends = _; expression = record { valuation = _; expression = h.a; term = h.x; has = h.first }; low = s.requires.short.first }
 
-add-short-root-2 : tie.Need-overflow-add-short-root-2
+add-short-root-2 : tie.Need-overflow_add-at-3
 add-short-root-2 c = let h = room c.before.before in omega arith
 
-short-root-requires-2 : tie.Need-short-root-requires-2
+short-root-requires-2 : tie.Need-short_root-b-requires
 short-root-requires-2 c κs =
     let s = c.before.before in
     let h = both s _ _ _ _ (the_call s) in
@@ -126,8 +126,8 @@ returns c =
           let n₁ = long_first s ends ρ e x k in
           let n₂ = long_second s ends ρ e x k in
           let l = h.long in
-          let l₁ = label_is _ _ _ (first.short-root.ensures.over ends ρ h.a h.x h.first) ∙ sym h.one in
-          let l₂ = label_is _ _ _ (second.short-root2.ensures.over ends ρ h.b h.y (second_at s ends ρ e x k)) ∙ sym h.two in
+          let l₁ = label_is _ _ _ (first.short_root-a.ensures.over ends ρ h.a h.x h.first) ∙ sym h.one in
+          let l₂ = label_is _ _ _ (second.short_root-b.ensures.over ends ρ h.b h.y (second_at s ends ρ e x k)) ∙ sym h.two in
           let l₃ = error_root ∙ sym h.three in
           call_meant _ _ _ _ _ ρ e x k (no_lookup s ends ρ e x k) _
           (ap (λ (r : Root). given r) (c.apply.ensures ∙ ap root_of
@@ -136,9 +136,7 @@ returns c =
     }
 
 pub short_call_spec : {M : Type 1} → statement M
-short_call_spec =
-    tie.close
-    (tie.spec
+short_call_spec = tie.close (tie.spec
     add-word
     word-requires
     cast-code

@@ -36,72 +36,70 @@ no_call_lem s p = let k : 4 < 4 = ltb-true 4 4 (subst (λ (z : ℤ). lt_z z (pos
 abbrev VariableAt : tie.Start → List ℕ → Valuation → Term → Term → Type 0
 VariableAt s ends ρ e x = VariableHere s.args.table.now s.args.configuration.now s.args.starts.now ends s.args.at ρ e x
 
-a_variable_lem : (c : tie.Then1) (ends : List ℕ) (ρ : Valuation) (e x : Term) → ValueAt c.before.before ends ρ e x → VariableAt c.before.before ends ρ e x
+a_variable_lem : (c : tie.Then-word-eq-VARIABLE) (ends : List ℕ) (ρ : Valuation) (e x : Term) → ValueAt c.before.before ends ρ e x → VariableAt c.before.before ends ρ e x
 a_variable_lem c ends ρ e x w =
     let f : mag c.before.word.result < 2 ^ 63 = search rules in
-    is_variable _ _ _ _ _ ρ e x w (sym c.before.word.ensures ∙ lit_pos c.before.word.result 3 f (lit< tt) c.if1.true)
+    is_variable _ _ _ _ _ ρ e x w (sym c.before.word.ensures ∙ lit_pos c.before.word.result 3 f (lit< tt) c.if-word-eq-VARIABLE.true)
 
-the_variable : (c : tie.Then1) → VariableAt c.before.before c.before.before.requires.ends c.before.before.requires.expression.valuation c.before.before.requires.expression.expression c.before.before.requires.expression.term
+the_variable : (c : tie.Then-word-eq-VARIABLE) → VariableAt c.before.before c.before.before.requires.ends c.before.before.requires.expression.valuation c.before.before.requires.expression.expression c.before.before.requires.expression.term
 the_variable c = a_variable_lem c _ _ _ _ c.before.before.requires.expression.has
 
-index_is : (c : tie.After-word2) (n : ℕ) → n < 16 → get_or c.before.before.before.args.table.now (c.before.before.before.args.at + 1) (pos 0) ≡ pos n → nat_abs (to_z w64 (of_z w64 c.word2.result)) ≡ n
-index_is c n h d = abs_back c.word2.result n (c.word2.ensures ∙ d) (omega arith)
+index_is : (c : tie.After-word-v) (n : ℕ) → n < 16 → get_or c.before.before.before.args.table.now (c.before.before.before.args.at + 1) (pos 0) ≡ pos n → nat_abs (to_z w64 (of_z w64 c.word-v.result)) ≡ n
+index_is c n h d = abs_back c.word-v.result n (c.word-v.ensures ∙ d) (omega arith)
 
-the_index : (c : tie.After-word2) → nat_abs (to_z w64 (of_z w64 c.word2.result)) < 16
+the_index : (c : tie.After-word-v) → nat_abs (to_z w64 (of_z w64 c.word-v.result)) < 16
 the_index c = let v = the_variable c.before in rw (index_is c v.number v.small v.datum) v.small
 
 -- what the variable stands for stands where its start says
-bound : (c : tie.After-word2) (ends : List ℕ) (ρ : Valuation) (e x : Term) → ValueAt c.before.before.before ends ρ e x → RootThere c.before.before.before.args.configuration.now (get_or c.before.before.before.args.starts.now (nat_abs (to_z w64 (of_z w64 c.word2.result))) 0) x
+bound : (c : tie.After-word-v) (ends : List ℕ) (ρ : Valuation) (e x : Term) → ValueAt c.before.before.before ends ρ e x → RootThere c.before.before.before.args.configuration.now (get_or c.before.before.before.args.starts.now (nat_abs (to_z w64 (of_z w64 c.word-v.result))) 0) x
 bound c ends ρ e x w =
     let v = a_variable_lem c.before ends ρ e x w in
     let b = v.bound in
     rw (index_is c v.number v.small v.datum) (root_stands _ _ x b.good b.grounded b.stands)
 
 -- no variable and no call
-a_ground : (c : tie.Else1) (ends : List ℕ) (ρ : Valuation) (e x : Term) → ValueAt c.before.before ends ρ e x → GroundHere c.before.before.args.table.now c.before.before.args.configuration.now c.before.before.args.starts.now ends c.before.before.args.at ρ e x
-a_ground c ends ρ e x w = is_ground_lem _ _ _ _ _ ρ e x w (λ q. c.if1.false (ap (of_z w64) (c.before.word.ensures ∙ q))) (no_call_lem c.before.before)
+a_ground : (c : tie.Else-word-eq-VARIABLE) (ends : List ℕ) (ρ : Valuation) (e x : Term) → ValueAt c.before.before ends ρ e x → GroundHere c.before.before.args.table.now c.before.before.args.configuration.now c.before.before.args.starts.now ends c.before.before.args.at ρ e x
+a_ground c ends ρ e x w = is_ground_lem _ _ _ _ _ ρ e x w (λ q. c.if-word-eq-VARIABLE.false (ap (of_z w64) (c.before.word.ensures ∙ q))) (no_call_lem c.before.before)
 
 word-requires : tie.Need-word-requires
 word-requires c κs = let h = room c in omega arith
 
-add-word : tie.Need-overflow-add-word
+add-word : tie.Need-overflow_add-at
 add-word c = let h = room c.before.before in omega arith
 
-word-requires-2 : tie.Need-word-requires-2
+word-requires-2 : tie.Need-word-v-requires
 word-requires-2 c κs = let h = room c.before.before in omega arith
 
-cast-v : tie.Need-overflow-cast-v
+cast-v : tie.Need-overflow_cast-v
 cast-v c =
     let v = the_variable c.before in
     let h = v.small in
-    cast_ok w64 c.word2.result v.number (c.word2.ensures ∙ v.datum) (omega arith) (record { fits = omega arith })
+    cast_ok w64 c.word-v.result v.number (c.word-v.ensures ∙ v.datum) (omega arith) (record { fits = omega arith })
 
-place-of-requires : tie.Need-place-of-requires
+place-of-requires : tie.Need-place_of-start-requires
 place-of-requires c κs = the_index c
 
-root-at-requires : tie.Need-root-at-requires
-root-at-requires c κs = rw c.place_of.ensures (bound c.before _ _ _ _ c.before.before.before.before.requires.expression.has).room
+root-at-requires : tie.Need-root_at-requires
+root-at-requires c κs = rw c.place_of-start.ensures (bound c.before _ _ _ _ c.before.before.before.before.requires.expression.has).room
 
-returns : tie.Need-returns
-returns c = record { over = λ ends ρ e x w. subst⁻¹ (λ (r : Root). Head r x.label (term_count x.children)) (rw c.before.place_of.ensures at c.root-at.ensures) (bound c.before.before ends ρ e x w).head }
+returns : tie.Need-returns-then-word-eq-VARIABLE
+returns c = record { over = λ ends ρ e x w. subst⁻¹ (λ (r : Root). Head r x.label (term_count x.children)) (rw c.before.place_of-start.ensures at c.root_at.ensures) (bound c.before.before ends ρ e x w).head }
 
-root-at-requires-2 : tie.Need-root-at-requires-2
+root-at-requires-2 : tie.Need-root_at-requires-2
 root-at-requires-2 c κs = let h = room c.before.before in omega arith
 
-returns-2 : tie.Need-returns-2
+returns-2 : tie.Need-returns
 returns-2 c =
     record {
       over = λ ends ρ e x w.
           let g = a_ground c.before ends ρ e x w in
           let s = c.before.before.before in
-          subst⁻¹ (λ (r : Root). Head r x.label (term_count x.children)) c.root-at2.ensures
+          subst⁻¹ (λ (r : Root). Head r x.label (term_count x.children)) c.root_at-2.ensures
           (subst (λ (y : Term). Head (root_at s.args.table.now s.args.at) y.label (term_count y.children)) g.is (root_stands _ _ e w.placed.good g.grounded w.placed.stands).head);
     }
 
 pub short_root_spec : {M : Type 1} → statement M
-short_root_spec =
-    tie.close
-    (tie.spec
+short_root_spec = tie.close (tie.spec
     word-requires
     add-word
     word-requires-2

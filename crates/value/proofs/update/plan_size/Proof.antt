@@ -10,56 +10,54 @@ use Rattle.value.proofs.UpdateLaw.{wrong_length, kept_length, size_small, behind
 use Rattle.value.proofs.update.plan_size.Statement.{statement}
 use Rattle.value.proofs.update.plan_size.Tie as tie
 
-returns : tie.Need-returns
-returns c = sym (ap length (wrong_length _ c.before.before.args.p _ (not-true c.before.before.args.p.keeps c.if1.true)))
+returns : tie.Need-returns-then-not-p
+returns c = sym (ap length (wrong_length _ c.before.before.args.p _ (not-true c.before.before.args.p.keeps c.if-not-p.true)))
 
-entry-words-requires : tie.Need-entry-words-requires
+entry-words-requires : tie.Need-entry_words-s-requires
 entry-words-requires c κs = search rules
 
-sub-behind : tie.Need-overflow-sub-behind
+sub-behind : tie.Need-overflow_sub-behind
 sub-behind c =
     let s = c.before.before.before.before in
     let w = c.before in
-    subst (λ (n : ℕ). s.args.p.to ≤ n) (sym (ap length w.entry_words.ensures)) s.requires.2.within
+    subst (λ (n : ℕ). s.args.p.to ≤ n) (sym (ap length w.entry_words-s.ensures)) s.requires.2.within
 
-size-requires : tie.Need-size-requires
+size-requires : tie.Need-size-n-requires
 size-requires c κs = let s = c.before.before.before.before in within_ordered _ _ s.args.v s.requires.1
 
 -- the sum is small
-module _ (c : tie.After-struct-known3) where
-  small : 4 + c.before.before.before.before.before.before.args.p.from + c.before.size.result + (length c.before.before.before.entry_words.result.now - c.before.before.before.before.before.before.args.p.to) ≤ 6 + (length c.before.before.before.before.before.before.args.table.now + length c.before.before.before.before.before.before.args.configuration.now) + (length c.before.before.before.before.before.before.args.table.now + length c.before.before.before.before.before.before.args.configuration.now)
+module _ (c : tie.After-struct_known-3-1) where
+  small : 4 + c.before.before.before.before.before.before.args.p.from + c.before.size-n.result + (length c.before.before.before.entry_words-s.result.now - c.before.before.before.before.before.before.args.p.to) ≤ 6 + (length c.before.before.before.before.before.before.args.table.now + length c.before.before.before.before.before.before.args.configuration.now) + (length c.before.before.before.before.before.before.args.table.now + length c.before.before.before.before.before.before.args.configuration.now)
   small =
       let s = c.before.before.before.before.before.before in
       let a = size_small s.args.table.now s.args.configuration.now s.args.v s.requires.1 in
       let b = behind_small s.args.table.now s.args.configuration.now s.args.d s.requires.0 in
-      let e = ap length c.before.before.before.entry_words.ensures in
+      let e = ap length c.before.before.before.entry_words-s.ensures in
       let f = s.requires.2.order in
       let g = s.requires.2.within in
-      let h : c.before.size.result ≡ size_of s.args.v = c.before.size.ensures in
+      let h : c.before.size-n.result ≡ size_of s.args.v = c.before.size-n.ensures in
       omega arith
 
-add-result : tie.Need-overflow-add-result
+add-result : tie.Need-overflow_add-result
 add-result c = let h = small c in omega arith
 
-add-result-2 : tie.Need-overflow-add-result-2
+add-result-2 : tie.Need-overflow_add-result-2
 add-result-2 c = let h = small c in omega arith
 
-add-result-3 : tie.Need-overflow-add-result-3
+add-result-3 : tie.Need-overflow_add-result-3
 add-result-3 c = let h = small c in omega arith
 
-returns-2 : tie.Need-returns-2
+returns-2 : tie.Need-returns
 returns-2 c =
     let s = c.before.before.before.before.before.before in
-    let a = kept_length (value_words s.args.table.now s.args.configuration.now s.args.d) s.args.p (value_words s.args.table.now s.args.configuration.now s.args.v) (not-false s.args.p.keeps c.before.before.before.before.if1.false) s.requires.2 in
-    let b : c.before.size.result ≡ size_of s.args.v = c.before.size.ensures in
+    let a = kept_length (value_words s.args.table.now s.args.configuration.now s.args.d) s.args.p (value_words s.args.table.now s.args.configuration.now s.args.v) (not-false s.args.p.keeps c.before.before.before.before.if-not-p.false) s.requires.2 in
+    let b : c.before.size-n.result ≡ size_of s.args.v = c.before.size-n.ensures in
     let d = size_is s.args.table.now s.args.configuration.now s.args.v s.requires.1 in
-    let e = ap length c.before.before.before.entry_words.ensures in
+    let e = ap length c.before.before.before.entry_words-s.ensures in
     omega arith
 
 pub plan_size_spec : {M : Type 1} → statement M
-plan_size_spec =
-    tie.close
-    (tie.spec
+plan_size_spec = tie.close (tie.spec
     returns
     entry-words-requires
     sub-behind

@@ -12,19 +12,19 @@ use Rattle.value.proofs.UpdateLaw.{put_then}
 use Rattle.value.proofs.update.put_front.Statement.{statement}
 use Rattle.value.proofs.update.put_front.Tie as tie
 
-cast-put-node : tie.Need-overflow-cast-put-node
+cast-put-node : tie.Need-overflow_cast-count
 cast-put-node c = search rules
 
-put-node-requires : tie.Need-put-node-requires
+put-node-requires : tie.Need-put_node-a-requires
 put-node-requires c κs = search rules
 
-put-words-requires : tie.Need-put-words-requires
+put-words-requires : tie.Need-put_words-b-requires
 put-words-requires c κs = search rules
 
-put-node-requires-2 : tie.Need-put-node-requires-2
+put-node-requires-2 : tie.Need-put_node-requires
 put-node-requires-2 c κs = search rules
 
-same_length : tie.Need-same-length
+same_length : tie.Need-shape_of-out
 same_length c = search rules
 
 returns : tie.Need-returns
@@ -42,9 +42,7 @@ returns c =
     put_then _ _ _ _ _ _ (pos 5 ∷ pos s.args.count ∷ s.args.words.now) (pos 2 ∷ s.args.key ∷ []) (omega arith) y z
 
 pub put_front_spec : {M : Type 1} → statement M
-put_front_spec =
-    tie.close
-    (tie.spec
+put_front_spec = tie.close (tie.spec
     cast-put-node
     put-node-requires
     put-words-requires

@@ -93,9 +93,9 @@ new_meets : {M : Type 1} {𝓤 : Ura M} (𝓛 : Logic 𝓤) → (mem : Memory �
     → Meets 𝓛 new.signature (WpFn 𝓤 𝓛.H 𝓣.C 𝓣.Λ code.function) (new.spec 𝓛 mem run)
 new_meets {𝓤 = 𝓤} 𝓛 mem run 𝓣 = walk_Meets 𝓛 new.ended stayed (Goes-none_slice 𝓛 1 (0 ∷ []) tt (plain (λ _. u8)) yes, (Goes-none 𝓛 1 (λ _. usize) yes (λ κs x f. refl), tt)) (new.clauses 𝓛 mem run) (WpFn 𝓤 𝓛.H 𝓣.C 𝓣.Λ code.function) (WpFn-mono 𝓤 𝓛.H 𝓛.laws 𝓣 code.function) (new_walks 𝓛 mem run 𝓣.C 𝓣.Λ)
 
-pub new_spec : {M : Type 1} → stated.statement M
-unfolding code.routine tables_of
-new_spec 𝓤 𝓛 𝓜 𝓡 =
-    entered 𝓤 𝓛.H (triple_of 𝓛 new.signature (new.spec 𝓛 𝓜.mem 𝓡.run))
-    (tables 𝓤 𝓛.H 𝓜 𝓡 code.env).C (tables 𝓤 𝓛.H 𝓜 𝓡 code.env).Λ #decimal·reader·new code.function (code.unfolded 𝓤 𝓛.H 𝓜 𝓡)
-    (new_meets 𝓛 𝓜.mem 𝓡.run (tables_of 𝓤 𝓛.H 𝓜 (tables 𝓤 𝓛.H 𝓜 𝓡 code.env)))
+the-returns : tie.Need-returns
+the-returns c = search rules
+
+pub new_spec : {M : Type 1} → statement M
+new_spec = tie.close (tie.spec
+    the-returns)

@@ -211,10 +211,13 @@ next_meets : {M : Type 1} {𝓤 : Ura M} (𝓛 : Logic 𝓤) (mem : Memory → S
 next_meets {𝓤 = 𝓤} 𝓛 mem run 𝓣 known-number = walk_Meets 𝓛 next.ended stayed (Goes-ref 𝓛 2 0 tt behind, tt) (next.clauses 𝓛 mem run) (WpFn 𝓤 𝓛.H 𝓣.C 𝓣.Λ code.function) (WpFn-mono 𝓤 𝓛.H 𝓛.laws 𝓣 code.function)
     (next_walks 𝓛 mem run 𝓣.C 𝓣.Λ (fm_of 𝓤 𝓛.H 𝓛.laws 𝓣) known-number)
 
-pub next_spec : {M : Type 1} → stated.statement M
-unfolding code.routine tables_of
-next_spec 𝓤 𝓛 𝓜 𝓡 =
-    entered 𝓤 𝓛.H (triple_of 𝓛 next.signature (next.spec 𝓛 𝓜.mem 𝓡.run))
-    (tables 𝓤 𝓛.H 𝓜 𝓡 code.env).C (tables 𝓤 𝓛.H 𝓜 𝓡 code.env).Λ #decimal·reader·next code.function (code.unfolded 𝓤 𝓛.H 𝓜 𝓡)
-    (next_meets 𝓛 𝓜.mem 𝓡.run (tables_of 𝓤 𝓛.H 𝓜 (tables 𝓤 𝓛.H 𝓜 𝓡 code.env))
-    (cited 𝓤 𝓛.H (NumberFrom 𝓛 𝓜.mem 𝓡.run) 𝓜 𝓡 code.env #decimal·reader·number-from number-def.routine code.calls-decimal::reader::number-from (number-thm.met 𝓤 𝓛 𝓜 𝓡)))
+the-number_from-reading-requires : tie.Need-number_from-reading-requires
+the-number_from-reading-requires c = search rules
+
+the-returns : tie.Need-returns
+the-returns c = search rules
+
+pub next_spec : {M : Type 1} → statement M
+next_spec = tie.close (tie.spec
+    the-number_from-reading-requires
+    the-returns)
