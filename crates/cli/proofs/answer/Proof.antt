@@ -8,7 +8,7 @@ use Rattle.cli.proofs.answer.Statement.{statement}
 use Rattle.cli.proofs.answer.Tie as tie
 
 returns : tie.Need-returns-then-output-lt-MAX_OUTPUT
-returns c = too_short c.before.before.before.args.input.now c.before.before.before.args.output.now c.if-output-lt-MAX_OUTPUT.true
+returns c = too_short c.args.input.now c.args.output.now c.if-output-lt-MAX_OUTPUT.true
 
 four-lines-requires : tie.Need-four_lines-requires
 four-lines-requires c κs = search rules
@@ -17,47 +17,47 @@ enum-known-second : tie.Need-enum_known-second
 enum-known-second c = search rules
 
 -- the four lines
-stand : (c : tie.In-Four) → Bounds c.before.before.before.before.before.before.before.args.input.now c.before.second-1.given.0.0 c.before.second-1.given.0.1.0 c.before.second-1.given.0.1.1.0
-stand c = bounds c.before.before.before.before.before.before.before.args.input.now _ _ _ _ c.before.before.before.four_lines.ensures c.before.second-1.given.1
+stand : (c : tie.In-Four) → Bounds c.args.input.now c.in-Four.second c.in-Four.third c.in-Four.fourth
+stand c = bounds c.args.input.now _ _ _ _ c.four_lines.ensures c.in-Four.is
 
 sub-answer-lines : tie.Need-slice_bounds-answer_lines-count
 sub-answer-lines c = (stand c).first
 
 slice-aggregate-answer-lines : tie.Need-slice_bounds-answer_lines-length
-slice-aggregate-answer-lines c = sym (length-take-le _ _ (omega (arith, stand c.before)))
+slice-aggregate-answer-lines c = sym (length-take-le _ _ (omega (arith, stand c)))
 
 sub-answer-lines-2 : tie.Need-overflow_sub-third
-sub-answer-lines-2 c = omega (arith, stand c.before)
+sub-answer-lines-2 c = omega (arith, stand c)
 
 sub-answer-lines-3 : tie.Need-slice_bounds-answer_lines-count-in-Four
-sub-answer-lines-3 c = (stand c.before).second
+sub-answer-lines-3 c = (stand c).second
 
 part-answer-lines-start : tie.Need-slice_bounds-answer_lines-start
-part-answer-lines-start c = (stand c.before).second
+part-answer-lines-start c = (stand c).second
 
 part-answer-lines-end : tie.Need-slice_bounds-answer_lines-end
-part-answer-lines-end c = omega (arith, stand c.before)
+part-answer-lines-end c = omega (arith, stand c)
 
 sub-answer-lines-4 : tie.Need-overflow_sub-fourth
-sub-answer-lines-4 c = omega (arith, stand c.before.before)
+sub-answer-lines-4 c = omega (arith, stand c.before)
 
 sub-answer-lines-5 : tie.Need-slice_bounds-answer_lines-count-in-Four-2
-sub-answer-lines-5 c = (stand c.before.before).third
+sub-answer-lines-5 c = (stand c.before).third
 
 part-answer-lines-start-2 : tie.Need-slice_bounds-answer_lines-start-in-Four
-part-answer-lines-start-2 c = (stand c.before.before).third
+part-answer-lines-start-2 c = (stand c.before).third
 
 part-answer-lines-end-2 : tie.Need-slice_bounds-answer_lines-end-in-Four
-part-answer-lines-end-2 c = omega (arith, stand c.before.before)
+part-answer-lines-end-2 c = omega (arith, stand c.before)
 
 sub-answer-lines-6 : tie.Need-overflow_sub-input
-sub-answer-lines-6 c = (stand c.before.before.before).there
+sub-answer-lines-6 c = (stand c.before.before).there
 
 sub-answer-lines-7 : tie.Need-slice_bounds-answer_lines-count-in-Four-3
-sub-answer-lines-7 c = (stand c.before.before.before).fourth
+sub-answer-lines-7 c = (stand c.before.before).fourth
 
 part-answer-lines-start-3 : tie.Need-slice_bounds-answer_lines-start-in-Four-2
-part-answer-lines-start-3 c = (stand c.before.before.before).fourth
+part-answer-lines-start-3 c = (stand c.before.before).fourth
 
 part-answer-lines-end-3 : tie.Need-slice_bounds-answer_lines-end-in-Four-2
 part-answer-lines-end-3 c = search rules
@@ -75,16 +75,18 @@ same_length : tie.Need-shape_of-output-in-Four
 same_length c = search rules
 
 returns-2 : tie.Need-returns-in-Four
-returns-2 c = four_lines c.before.before.before.before.before.before.before.before.before.before.before.before.before.before.before.args.input.now c.before.before.before.before.before.before.before.before.before.before.before.before.before.before.before.args.output.now _ _ c.before.before.before.before.before.before.before.before.before.before.before.before.if-output-lt-MAX_OUTPUT.false _ c.before.before.before.before.before.before.before.before.before.before.before.four_lines.ensures _ _ _ c.before.before.before.before.before.before.before.before.before.second-1.given.1 c.before.before.answer_lines.ensures
+returns-2 c = four_lines c.before.args.input.now c.before.args.output.now _ _ c.if-output-lt-MAX_OUTPUT.false _ c.four_lines.ensures _ _ _ c.in-Four.is c.answer_lines.ensures
 
 same-length-2 : tie.Need-shape_of-output-in-Bad
 same-length-2 c = search rules
 
 returns-3 : tie.Need-returns-in-Bad
-returns-3 c = no_lines c.before.before.before.before.before.before.before.before.before.before.args.input.now c.before.before.before.before.before.before.before.before.before.before.args.output.now _ _ c.before.before.before.before.before.before.before.if-output-lt-MAX_OUTPUT.false _ c.before.before.before.before.before.before.four_lines.ensures c.before.before.before.before.enum_told-1.given.1 c.before.before.put_refusal.ensures
+returns-3 c = no_lines c.args.input.now c.args.output.now _ _ c.if-output-lt-MAX_OUTPUT.false _ c.four_lines.ensures c.in-Bad.is c.put_refusal.ensures
 
 pub answer_spec : {M : Type 1} → statement M
-answer_spec = tie.close (tie.spec
+answer_spec =
+    tie.close
+    (tie.spec
     returns
     four-lines-requires
     enum-known-second

@@ -27,13 +27,13 @@ same_length c = search rules
 
 returns : tie.Need-returns-in_default
 returns c =
-    let r = c.before.before.before.before.before.before.before in
+    let r = c.before.before.before.before.before.before in
     let s = r.before.before.before.before.before.before.before in
-    no_table s.args.table-line.now s.args.configuration-line.now s.args.log-line.now s.args.limit-line.now _ _ _ (not_took _ _ _ _ r.read_words.ensures c.before.before.before.before.enum_told-1.given.1) c.before.before.put_refusal.ensures
+    no_table s.args.table-line.now s.args.configuration-line.now s.args.log-line.now s.args.limit-line.now _ _ _ (not_took _ _ _ _ r.read_words.ensures c.in_default.is) c.put_refusal.ensures
 
 -- what was read of a line
-table : (c : tie.In-Read-2) → Took (items word_of c.before.before.before.before.before.before.before.before.before.before.args.table-line.now) 2048 c.before.before.before.read_words.new.1.0 c.words-1.given.0.0
-table c = took _ _ _ _ c.before.before.before.read_words.ensures _ c.words-1.given.1 c.before.before.before.read_words.auto.1.0
+table : (c : tie.In-Read-2) → Took (items word_of c.args.table-line.now) 2048 c.read_words.new.out c.in-Read.words
+table c = took _ _ _ _ c.read_words.ensures _ c.in-Read.is c.read_words.auto.1.0
 
 slice-aggregate-read-words-2 : tie.Need-slice_bounds-read_words-end-2
 slice-aggregate-read-words-2 c = search rules
@@ -55,13 +55,13 @@ same-length-2 c = search rules
 
 returns-2 : tie.Need-returns-in_default-read_words
 returns-2 c =
-    let r = c.before.before.before.before.before.before.before in
-    let w = r.before.before.before in
-    let s = w.before.before.before.before.before.before.before.before.before.before in
-    no_configuration s.args.table-line.now s.args.configuration-line.now s.args.log-line.now s.args.limit-line.now _ _ _ _ (table w).is (not_took _ _ _ _ r.read_words-2.ensures c.before.before.before.before.enum_told-in_default-read_words-1.given.1) c.before.before.put_refusal-in_default-read_words.ensures
+    let r = c.before.before.before.before.before.before in
+    let w = r.before.before in
+    let s = w.before.before.before.before.before.before.before.before.before in
+    no_configuration s.args.table-line.now s.args.configuration-line.now s.args.log-line.now s.args.limit-line.now _ _ _ _ (table w).is (not_took _ _ _ _ r.read_words-2.ensures c.in_default-read_words.is) c.put_refusal-in_default-read_words.ensures
 
-configuration : (c : tie.In-Read-read_words-2) → Took (items word_of c.before.before.before.before.before.before.before.before.before.before.before.before.before.before.before.before.args.configuration-line.now) 1024 c.before.before.before.read_words-2.new.1.0 c.more-1.given.0.0
-configuration c = took _ _ _ _ c.before.before.before.read_words-2.ensures _ c.more-1.given.1 c.before.before.before.read_words-2.auto.1.0
+configuration : (c : tie.In-Read-read_words-2) → Took (items word_of c.args.configuration-line.now) 1024 c.read_words-2.new.out c.in-Read-read_words.more
+configuration c = took _ _ _ _ c.read_words-2.ensures _ c.in-Read-read_words.is c.read_words-2.auto.1.0
 
 slice-aggregate-read-log : tie.Need-slice_bounds-read_log-end
 slice-aggregate-read-log c = search rules
@@ -83,14 +83,14 @@ same-length-3 c = search rules
 
 returns-3 : tie.Need-returns-in_default-read_log
 returns-3 c =
-    let r = c.before.before.before.before.before.before.before in
-    let m = r.before.before.before in
-    let w = m.before.before.before.before.before.before in
-    let s = w.before.before.before.before.before.before.before.before.before.before in
-    no_log s.args.table-line.now s.args.configuration-line.now s.args.log-line.now s.args.limit-line.now _ _ _ _ (table w).is _ (configuration m).is (not_took _ _ _ _ r.read_Log.ensures c.before.before.before.before.enum_told-in_default-read_log-1.given.1) c.before.before.put_refusal-in_default-read_log.ensures
+    let r = c.before.before.before.before.before.before in
+    let m = r.before.before in
+    let w = m.before.before.before.before in
+    let s = w.before.before.before.before.before.before.before.before.before in
+    no_log s.args.table-line.now s.args.configuration-line.now s.args.log-line.now s.args.limit-line.now _ _ _ _ (table w).is _ (configuration m).is (not_took _ _ _ _ r.read_Log.ensures c.in_default-read_log.is) c.put_refusal-in_default-read_log.ensures
 
-log : (c : tie.In-Read-read_log-2) → Took (log_items c.before.before.before.before.before.before.before.before.before.before.before.before.before.before.before.before.before.before.before.before.before.before.args.log-line.now) 256 c.before.before.before.read_Log.new.1.0 c.actions-1.given.0.0
-log c = took _ _ _ _ c.before.before.before.read_Log.ensures _ c.actions-1.given.1 c.before.before.before.read_Log.auto.1.0
+log : (c : tie.In-Read-read_log-2) → Took (log_items c.args.log-line.now) 256 c.read_Log.new.1.0 c.in-Read-read_log.actions
+log c = took _ _ _ _ c.read_Log.ensures _ c.in-Read-read_log.is c.read_Log.auto.1.0
 
 read-limit-requires : tie.Need-read_limit-requires
 read-limit-requires c κs = search rules
@@ -109,44 +109,44 @@ same-length-4 c = search rules
 
 returns-4 : tie.Need-returns-in_default-read_limit
 returns-4 c =
-    let r = c.before.before.before.before.before.before in
-    let a = r.before.before in
-    let m = a.before.before.before.before.before.before in
-    let w = m.before.before.before.before.before.before in
-    let s = w.before.before.before.before.before.before.before.before.before.before in
-    no_limit s.args.table-line.now s.args.configuration-line.now s.args.log-line.now s.args.limit-line.now _ _ _ _ (table w).is _ (configuration m).is _ (log a).is (limit_not _ _ r.read_limit.ensures c.before.before.before.before.enum_told-in_default-read_limit-1.given.1) c.before.before.put_refusal-in_default-read_limit.ensures
+    let r = c.before.before.before.before.before in
+    let a = r.before in
+    let m = a.before.before.before.before in
+    let w = m.before.before.before.before in
+    let s = w.before.before.before.before.before.before.before.before.before in
+    no_limit s.args.table-line.now s.args.configuration-line.now s.args.log-line.now s.args.limit-line.now _ _ _ _ (table w).is _ (configuration m).is _ (log a).is (limit_not _ _ r.read_limit.ensures c.in_default-read_limit.is) c.put_refusal-in_default-read_limit.ensures
 
 array-share-prefix-table : tie.Need-slice_bounds-table-end
 array-share-prefix-table c =
-    let a = c.before.before.before.before.before in
-    let m = a.before.before.before.before.before.before in
-    let w = m.before.before.before.before.before.before in
+    let a = c.before.before in
+    let m = a.before.before.before.before in
+    let w = m.before.before.before.before in
     (table w).within
 
 slice-aggregate-answer-request : tie.Need-slice_bounds-answer_request-end
 slice-aggregate-answer-request c =
-    let a = c.before.before.before.before.before.before in
-    let m = a.before.before.before.before.before.before in
-    let w = m.before.before.before.before.before.before in
+    let a = c.before.before.before in
+    let m = a.before.before.before.before in
+    let w = m.before.before.before.before in
     sym (length-take-le _ _ (table w).within)
 
 array-share-prefix-configuration : tie.Need-slice_bounds-configuration-end
 array-share-prefix-configuration c =
-    let a = c.before.before.before.before.before.before in
-    let m = a.before.before.before.before.before.before in
+    let a = c.before.before.before in
+    let m = a.before.before.before.before in
     (configuration m).within
 
 slice-aggregate-answer-request-2 : tie.Need-slice_bounds-answer_request-end-2
 slice-aggregate-answer-request-2 c =
-    let a = c.before.before.before.before.before.before.before in
-    let m = a.before.before.before.before.before.before in
+    let a = c.before.before.before.before in
+    let m = a.before.before.before.before in
     sym (length-take-le _ _ (configuration m).within)
 
 array-share-prefix-log : tie.Need-slice_bounds-log-end
-array-share-prefix-log c = (log c.before.before.before.before.before.before.before).within
+array-share-prefix-log c = (log c.before.before.before.before).within
 
 slice-aggregate-answer-request-3 : tie.Need-slice_bounds-answer_request-end-3
-slice-aggregate-answer-request-3 c = sym (length-take-le _ _ (log c.before.before.before.before.before.before.before.before).within)
+slice-aggregate-answer-request-3 c = sym (length-take-le _ _ (log c.before.before.before.before.before).within)
 
 answer-request-requires : tie.Need-answer_request-requires
 answer-request-requires c κs = search rules
@@ -156,15 +156,17 @@ same-length-5 c = search rules
 
 returns-5 : tie.Need-returns
 returns-5 c =
-    let l = c.before.before.before.before.before.before.before.before in
-    let a = l.before.before.before.before in
-    let m = a.before.before.before.before.before.before in
-    let w = m.before.before.before.before.before.before in
-    let s = w.before.before.before.before.before.before.before.before.before.before in
-    all_read s.args.table-line.now s.args.configuration-line.now s.args.log-line.now s.args.limit-line.now _ _ _ _ (table w).is _ (configuration m).is _ (log a).is _ (limit_read _ _ _ l.before.before.read_limit.ensures l.limit-1.given.1) c.before.before.answer_request.ensures
+    let l = c.before.before.before.before.before.before.before in
+    let a = l.before.before in
+    let m = a.before.before.before.before in
+    let w = m.before.before.before.before in
+    let s = w.before.before.before.before.before.before.before.before.before in
+    all_read s.args.table-line.now s.args.configuration-line.now s.args.log-line.now s.args.limit-line.now _ _ _ _ (table w).is _ (configuration m).is _ (log a).is _ (limit_read _ _ _ l.read_limit.ensures l.in-Is.is) c.answer_request.ensures
 
 pub answer_lines_spec : {M : Type 1} → statement M
-answer_lines_spec = tie.close (tie.spec
+answer_lines_spec =
+    tie.close
+    (tie.spec
     slice-aggregate-read-words
     read-words-requires
     enum-known-words

@@ -24,12 +24,12 @@ enum-known-answer : tie.Need-enum_known-answer
 enum-known-answer c = search rules
 
 -- the log was reproduced
-found : (d : tie.In-Reproduced) → let v = d.before.before.before.before.before.before in let a = v.before.before.before.before.before.before.args in
-    Shown a.table.now a.configuration.now a.log.now a.limit v.replay_counted-answer.new.1.1.1.1.0 v.replay_counted-answer.new.1.1.1.1.1.0 (2 * d.before.answer-1.given.0.0)
+found : (d : tie.In-Reproduced) → let v = d.before.before.before.before in let a = v.args in
+    Shown a.table.now a.configuration.now a.log.now a.limit v.replay_counted-answer.new.out v.replay_counted-answer.new.choices (2 * d.in-Reproduced.nodes)
 found d =
-    let v = d.before.before.before.before.before.before in
-    let a = v.before.before.before.before.before.before.args in
-    let g = d.before.answer-1.given in
+    let v = d.before.before.before.before in
+    let a = v.args in
+    let g = d.answer-1.given in
     shown a.table.now a.configuration.now a.log.now a.limit _ _ _ _ _ _ _ v.replay_counted-answer.ensures refl refl refl g.0.0 g.1 v.replay_counted-answer.auto.1.1.1.1.0 v.replay_counted-answer.auto.1.1.1.1.1.0 (2 * g.0.0) refl
 
 mul-end : tie.Need-overflow_mul-end
@@ -50,8 +50,8 @@ slice-aggregate-put-reproduced-2 c = sym (length-take-le _ _ (found c.before.bef
 put-reproduced-requires : tie.Need-put_reproduced-requires
 put-reproduced-requires c κs =
     let d = c.before.before.before in
-    let v = d.before.before.before.before.before.before in
-    omega (arith, (found d).text_room, v.before.before.before.before.before.before.requires)
+    let v = d.before.before.before.before in
+    omega (arith, (found d).text_room, v.requires)
 
 enum_told : tie.Need-enum_told-1
 enum_told c = search rules
@@ -69,7 +69,7 @@ same_length : tie.Need-shape_of-output-in-Reproduced
 same_length c = search rules
 
 returns : tie.Need-returns-in-Reproduced
-returns c = rw (found c.before.before.before.before.before.before).text c.before.before.put_reproduced.ensures
+returns c = rw (found c.before.before.before.before.before.before).text c.put_reproduced.ensures
 
 same-length-2 : tie.Need-shape_of-output-in-NotReproduced
 same-length-2 c = search rules
@@ -77,22 +77,24 @@ same-length-2 c = search rules
 returns-2 : tie.Need-returns-in-NotReproduced
 returns-2 c =
     let d = c.before.before.before.before in
-    let v = d.before.before.before.before.before in
-    let a = v.before.before.before.before.before.before.args in
-    not_reproduced_answer a.table.now a.configuration.now a.log.now a.limit _ _ _ _ _ _ _ v.replay_counted-answer.ensures refl refl refl _ _ _ d.enum_told-1.given.1 c.before.before.put_not_reproduced.ensures
+    let v = d.before.before.before.before in
+    let a = v.args in
+    not_reproduced_answer a.table.now a.configuration.now a.log.now a.limit _ _ _ _ _ _ _ v.replay_counted-answer.ensures refl refl refl _ _ _ d.in-NotReproduced.is c.put_not_reproduced.ensures
 
 same-length-3 : tie.Need-shape_of-output-in-Refused
 same-length-3 c = search rules
 
 returns-3 : tie.Need-returns-in-Refused
 returns-3 c =
-    let d = c.before.before.before.before.before in
-    let v = d.before.before.before.before.before in
-    let a = v.before.before.before.before.before.before.args in
-    refused_answer a.table.now a.configuration.now a.log.now a.limit _ _ _ _ _ _ _ v.replay_counted-answer.ensures refl refl refl _ _ _ _ d.answer-in-Refused-1.given.1 c.before.before.put_refusal.ensures
+    let d = c.before.before.before.before in
+    let v = d.before.before.before.before in
+    let a = v.args in
+    refused_answer a.table.now a.configuration.now a.log.now a.limit _ _ _ _ _ _ _ v.replay_counted-answer.ensures refl refl refl _ _ _ _ d.in-Refused.is c.put_refusal.ensures
 
 pub answer_request_spec : {M : Type 1} → statement M
-answer_request_spec = tie.close (tie.spec
+answer_request_spec =
+    tie.close
+    (tie.spec
     slice-aggregate-replay-counted
     slice-aggregate-replay-counted-2
     slice-aggregate-replay-counted-3

@@ -14,7 +14,9 @@ returns : tie.Need-returns
 returns c = search rules
 
 pub hethalip_match_spec : {M : Type 1} → statement M
-hethalip_match_spec = tie.close (tie.spec
+hethalip_match_spec =
+    tie.close
+    (tie.spec
     match-rule-requires
     matched-requires
     returns)

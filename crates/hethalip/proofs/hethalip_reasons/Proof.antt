@@ -8,7 +8,7 @@ reasons-requires : tie.Need-reasons-answer-requires
 reasons-requires c κs = search rules
 
 reasons-requires-2 : tie.Need-reasons-requires
-reasons-requires-2 c κs = reasons_in_range c.before.reasons-answer.ensures
+reasons-requires-2 c κs = reasons_in_range c.reasons-answer.ensures
 
 same_length : tie.Need-shape_of-list
 same_length c = search rules
@@ -17,7 +17,9 @@ returns : tie.Need-returns
 returns c = search rules
 
 pub hethalip_reasons_spec : {M : Type 1} → statement M
-hethalip_reasons_spec = tie.close (tie.spec
+hethalip_reasons_spec =
+    tie.close
+    (tie.spec
     reasons-requires
     reasons-requires-2
     same_length

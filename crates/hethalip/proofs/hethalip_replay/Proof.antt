@@ -22,7 +22,9 @@ returns : tie.Need-returns
 returns c = search rules
 
 pub hethalip_replay_spec : {M : Type 1} → statement M
-hethalip_replay_spec = tie.close (tie.spec
+hethalip_replay_spec =
+    tie.close
+    (tie.spec
     replay-requires
     replay-requires-2
     same_length

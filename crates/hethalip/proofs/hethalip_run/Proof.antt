@@ -8,7 +8,7 @@ run-requires : tie.Need-run-answer-requires
 run-requires c κs = search rules
 
 run-requires-2 : tie.Need-run-requires
-run-requires-2 c κs = run_in_range c.before.before.run-answer.ensures
+run-requires-2 c κs = run_in_range c.run-answer.ensures
 
 same_length : tie.Need-shape_of-out
 same_length c = search rules
@@ -20,7 +20,9 @@ returns : tie.Need-returns
 returns c = search rules
 
 pub hethalip_run_spec : {M : Type 1} → statement M
-hethalip_run_spec = tie.close (tie.spec
+hethalip_run_spec =
+    tie.close
+    (tie.spec
     run-requires
     run-requires-2
     same_length

@@ -8,7 +8,7 @@ step-requires : tie.Need-step-answer-requires
 step-requires c κs = search rules
 
 step-requires-2 : tie.Need-step-requires
-step-requires-2 c κs = step_in_range c.before.step-answer.ensures
+step-requires-2 c κs = step_in_range c.step-answer.ensures
 
 same_length : tie.Need-shape_of-out
 same_length c = search rules
@@ -17,7 +17,9 @@ returns : tie.Need-returns
 returns c = search rules
 
 pub hethalip_step_spec : {M : Type 1} → statement M
-hethalip_step_spec = tie.close (tie.spec
+hethalip_step_spec =
+    tie.close
+    (tie.spec
     step-requires
     step-requires-2
     same_length

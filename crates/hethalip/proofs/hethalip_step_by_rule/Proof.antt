@@ -8,7 +8,7 @@ step-by-rule-requires : tie.Need-step_by_rule-answer-requires
 step-by-rule-requires c κs = search rules
 
 step-requires : tie.Need-step-requires
-step-requires c κs = rule_in_range c.before.step_by_rule-answer.ensures
+step-requires c κs = rule_in_range c.step_by_rule-answer.ensures
 
 same_length : tie.Need-shape_of-out
 same_length c = search rules
@@ -17,7 +17,9 @@ returns : tie.Need-returns
 returns c = search rules
 
 pub hethalip_step_by_rule_spec : {M : Type 1} → statement M
-hethalip_step_by_rule_spec = tie.close (tie.spec
+hethalip_step_by_rule_spec =
+    tie.close
+    (tie.spec
     step-by-rule-requires
     step-requires
     same_length

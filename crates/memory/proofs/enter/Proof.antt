@@ -19,13 +19,15 @@ returns c =
     let s = k.before.before in
     let a = s.args in
     let e = k.keep.ensures in
-    rw c.before.enter.ensures (
-      kept_enters a.room a.work.now a.at a.configuration.now k.keep.new.0 s.requires.0 s.requires.1 e,
-      kept_keeps a.room a.work.now a.at a.configuration.now k.keep.new.0 s.requires.0 s.requires.1 e,
+    rw c.enter.ensures (
+      kept_enters a.room a.work.now a.at a.configuration.now k.keep.new.work s.requires.0 s.requires.1 e,
+      kept_keeps a.room a.work.now a.at a.configuration.now k.keep.new.work s.requires.0 s.requires.1 e,
     )
 
 pub enter_spec : {M : Type 1} → statement M
-enter_spec = tie.close (tie.spec
+enter_spec =
+    tie.close
+    (tie.spec
     keep-requires
     enter-requires
     same_length

@@ -43,21 +43,21 @@ loop-holds c = (omega arith, c.requires.0, c.requires.1, record { wide = refl; b
 
 base-at-requires : tie.Need-base_at-at-requires invariant-loop decreases-loop
 base-at-requires c κs =
-    let a = c.before.before.args in
-    let v = c.before.loop-i.invariant in
-    (v.2, omega (arith, frame_before a.room c.before.loop-i.i a.actions c.loop-i-test.true, v.1))
+    let a = c.args in
+    let v = c.loop-i.invariant in
+    (v.2, omega (arith, frame_before a.room c.loop-i.i a.actions c.loop-i-test.true, v.1))
 
 add-put : tie.Need-overflow_add-at invariant-loop decreases-loop
 add-put c =
     let h = c.before.before.before in
-    let a = h.before.args in
-    omega (arith, c.before.base_at-at.ensures, frame_before a.room h.loop-i.i a.actions c.before.before.loop-i-test.true, h.loop-i.invariant.1)
+    let a = h.args in
+    omega (arith, c.base_at-at.ensures, frame_before a.room h.loop-i.i a.actions c.loop-i-test.true, h.loop-i.invariant.1)
 
 put-requires : tie.Need-put-requires invariant-loop decreases-loop
 put-requires c κs =
     let h = c.before.before.before in
-    let a = h.before.args in
-    (omega (arith, c.before.base_at-at.ensures, frame_before a.room h.loop-i.i a.actions c.before.before.loop-i-test.true, h.loop-i.invariant.1, h.loop-i.invariant.3.wide), omega arith)
+    let a = h.args in
+    (omega (arith, c.base_at-at.ensures, frame_before a.room h.loop-i.i a.actions c.loop-i-test.true, h.loop-i.invariant.1, h.loop-i.invariant.3.wide), omega arith)
 
 add-i : tie.Need-overflow_add-i invariant-loop decreases-loop
 add-i c = omega arith
@@ -68,21 +68,23 @@ loop-less c = omega arith
 loop-again : tie.Need-loop-i-preserved invariant-loop decreases-loop
 loop-again c =
     let h = c.before.before.before.before.before in
-    let a = h.before.args in
+    let a = h.args in
     let v = h.loop-i.invariant in
-    let e : c.before.put.new.0 ≡ set h.loop-i.work (base a.room h.loop-i.i + a.room) (pos 0) = rw c.before.before.before.base_at-at.ensures at c.before.put.ensures in
+    let e : c.put.new.words ≡ set h.loop-i.work (base a.room h.loop-i.i + a.room) (pos 0) = rw c.base_at-at.ensures at c.put.ensures in
     (omega arith, v.1, v.2, rw e (cleared a.room a.actions a.work.now h.loop-i.work h.loop-i.i (omega arith) v.1 v.3))
 
 same_length : tie.Need-shape_of-work invariant-loop decreases-loop
-same_length c = c.before.loop-i.invariant.3.wide
+same_length c = c.loop-i.invariant.3.wide
 
 returns : tie.Need-returns invariant-loop decreases-loop
 returns c =
-    let v = c.before.loop-i.invariant in
+    let v = c.loop-i.invariant in
     record { wide = v.3.wide; behind = v.3.behind; empty = λ i h. v.3.empty i (omega (arith, c.loop-i-test.false)) }
 
 pub forget_spec : {M : Type 1} → statement M
-forget_spec = tie.close (tie.spec
+forget_spec =
+    tie.close
+    (tie.spec
     invariant-loop
     decreases-loop
     loop-holds

@@ -19,10 +19,12 @@ same-length-3 : tie.Need-shape_of-work
 same-length-3 c = search rules
 
 returns : tie.Need-returns
-returns c = rw c.uncounted.ensures c.before.before.before.before.before.replay_counted-answer.ensures.replays
+returns c = rw c.uncounted.ensures c.replay_counted-answer.ensures.replays
 
 pub replay_spec : {M : Type 1} → statement M
-replay_spec = tie.close (tie.spec
+replay_spec =
+    tie.close
+    (tie.spec
     replay-counted-requires
     uncounted-requires
     same_length

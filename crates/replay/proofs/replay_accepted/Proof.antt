@@ -12,12 +12,12 @@ use borrow.Author.Rules.{rules}
 use Rattle.replay.proofs.replay_accepted.Statement.{statement}
 use Rattle.replay.proofs.replay_accepted.Tie as tie
 
-some : (e : tie.Else-actions-eq0) → 0 < length e.before.before.before.before.args.log.now
+some : (e : tie.Else-actions-eq0) → 0 < length e.args.log.now
 some e = omega (arith, e.if-actions-eq0.false)
 
 -- the work area has the words that are cleared
-whole : (b : tie.After-base_at-last) → b.base_at-last.result + (b.before.before.before.args.room + 2) ≤ length b.before.before.before.args.work.now
-whole b = omega (arith, b.base_at-last.ensures, b.before.before.before.requires.0.work_fits)
+whole : (b : tie.After-base_at-last) → b.base_at-last.result + (b.args.room + 2) ≤ length b.args.work.now
+whole b = omega (arith, b.base_at-last.ensures, b.requires.0.work_fits)
 
 base-at-requires : tie.Need-base_at-last-requires
 base-at-requires c κs = search rules
@@ -54,21 +54,21 @@ returns c =
     let b = c.before.before.before.before.before.before.before in
     let s = b.before.before.before in
     let a = s.args in
-    answer_empty a.table.now a.configuration.now a.log.now a.room a.out.now a.choices.now a.work.now _ _ s.requires.1.1 c.before.before.before.before.before.before.if-actions-eq0.true c.before.before.before.before.copy.ensures
-    (zeros_front (b.base_at-last.result + (a.room + 2)) a.work.now _ (whole b) c.before.clear.ensures ∙ ap (λ (at : ℕ). write_zeros (at + (a.room + 2)) a.work.now) b.base_at-last.ensures)
+    answer_empty a.table.now a.configuration.now a.log.now a.room a.out.now a.choices.now a.work.now _ _ s.requires.1.1 c.if-actions-eq0.true c.copy.ensures
+    (zeros_front (b.base_at-last.result + (a.room + 2)) a.work.now _ (whole b) c.clear.ensures ∙ ap (λ (at : ℕ). write_zeros (at + (a.room + 2)) a.work.now) b.base_at-last.ensures)
 
 set-up-requires : tie.Need-set_up-requires
 set-up-requires c κs = search rules
 
 -- what is set up, for the log's own length
-up : (c : tie.After-set_up) → let a = c.before.before.before.before.before.before.before.args in SetsUp a.room (length a.log.now) a.configuration.now a.out.now a.work.now c.set_up.new.0
+up : (c : tie.After-set_up) → let a = c.before.args in SetsUp a.room (length a.log.now) a.configuration.now a.out.now a.work.now c.set_up.new.work
 up c = c.set_up.ensures
 
 find-requires : tie.Need-find-found-requires
 find-requires c κs =
     let u = c.before.before.before in
     let e = u.before.before.before in
-    let s = e.before.before.before.before in
+    let s = e.before in
     let a = s.args in
     let p = s.requires in (
       opened_room a.table.now a.index.now a.rules a.room a.configuration.now a.log.now a.out.now a.work.now p.0 p.1.0.0 (some e) p.1.1 _ (up u),
@@ -86,7 +86,7 @@ conclude-requires c κs =
     let h = c.before.before.before.before.before in
     let u = h.before.before.before.before in
     let e = u.before.before.before in
-    let s = e.before.before.before.before in
+    let s = e.before in
     let a = s.args in
     let p = s.requires in
     let r = end_room a.table.now a.index.now a.rules a.room a.configuration.now a.log.now a.out.now a.work.now p.0 p.1.0.0 (some e) p.1.1 _ (up u) h.find-found.result _ _ h.find-found.ensures in
@@ -107,13 +107,15 @@ returns-2 c =
     let h = k.before.before.before.before.before.before in
     let u = h.before.before.before.before in
     let e = u.before.before.before in
-    let s = e.before.before.before.before in
+    let s = e.before in
     let a = s.args in
     let p = s.requires in
     answered a.table.now a.index.now a.rules a.room a.configuration.now a.log.now a.out.now a.work.now p.0 p.1.0.0 (some e) p.1.1 _ (up u) h.find-found.result _ _ h.find-found.ensures a.choices.now _ _ _ _ k.conclude.ensures
 
 pub replay_accepted_spec : {M : Type 1} → statement M
-replay_accepted_spec = tie.close (tie.spec
+replay_accepted_spec =
+    tie.close
+    (tie.spec
     base-at-requires
     copy-requires
     add-end

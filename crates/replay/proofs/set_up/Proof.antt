@@ -12,10 +12,10 @@ use Rattle.replay.proofs.set_up.Statement.{statement}
 use Rattle.replay.proofs.set_up.Tie as tie
 
 slice-aggregate-copy : tie.Need-slice_bounds-copy-end
-slice-aggregate-copy c = sym (length-take-le c.before.before.args.room c.before.before.args.out.now c.before.before.requires.2)
+slice-aggregate-copy c = sym (length-take-le c.before.args.room c.before.args.out.now c.before.requires.2)
 
 copy-requires : tie.Need-copy-requires
-copy-requires c κs = omega (arith, length-take-le c.before.before.args.room c.before.before.args.out.now c.before.before.requires.2)
+copy-requires c κs = omega (arith, length-take-le c.before.args.room c.before.args.out.now c.before.requires.2)
 
 forget-requires : tie.Need-forget-requires
 forget-requires c κs = search rules
@@ -28,17 +28,19 @@ same_length c = search rules
 
 returns : tie.Need-returns
 returns c =
-    let s = c.before.before.before.before.before.before.before.before.before.before in
+    let s = c.before in
     let a = s.args in
     let kept : List ℤ = take a.room a.out.now in
-    let f = c.before.before.before.before.forget in
-    let e : c.before.before.before.before.before.before.before.copy.new.0 ≡ paste a.work.now (base a.room a.actions) kept a.room =
-    c.before.before.before.before.before.before.before.copy.ensures ∙ ap (paste a.work.now a.last kept) (length-take-le a.room a.out.now s.requires.2)
+    let f = c.forget in
+    let e : c.copy.new.to ≡ paste a.work.now (base a.room a.actions) kept a.room =
+    c.copy.ensures ∙ ap (paste a.work.now a.last kept) (length-take-le a.room a.out.now s.requires.2)
     ∙ ap (λ (at : ℕ). paste a.work.now at kept a.room) s.requires.1 in
-    record { cleared = f.new.0; forgets = subst (λ (w : List ℤ). Forgets a.room a.actions w f.new.0) e f.ensures; is = c.before.enter.ensures }
+    record { cleared = f.new.0; forgets = subst (λ (w : List ℤ). Forgets a.room a.actions w f.new.0) e f.ensures; is = c.enter.ensures }
 
 pub set_up_spec : {M : Type 1} → statement M
-set_up_spec = tie.close (tie.spec
+set_up_spec =
+    tie.close
+    (tie.spec
     slice-aggregate-copy
     copy-requires
     forget-requires

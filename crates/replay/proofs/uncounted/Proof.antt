@@ -19,10 +19,12 @@ returns-2 : tie.Need-returns-in-NotReproduced
 returns-2 c = search rules
 
 returns-3 : tie.Need-returns-in-Refused
-returns-3 c = rw c.before.answer-1.given.1
+returns-3 c = rw c.in-Refused.is
 
 pub uncounted_spec : {M : Type 1} → statement M
-uncounted_spec = tie.close (tie.spec
+uncounted_spec =
+    tie.close
+    (tie.spec
     enum_told
     enum-told-2
     enum-known-answer

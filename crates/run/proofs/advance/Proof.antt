@@ -38,8 +38,8 @@ loop-holds c =
 step-across-requires : tie.Need-step_across-answer-requires invariant-loop decreases-loop
 step-across-requires c κs =
     let b = c.before.before in
-    let a = b.before.args in
-    let p = b.before.requires in
+    let a = b.args in
+    let p = b.requires in
     let l = b.loop-made in
     let w = words_fit b.before in
     let o = l.invariant.out_long in
@@ -57,26 +57,26 @@ other-side-requires c κs = search rules
 
 -- one step more: the budget was not used up, and what is reached then
 next : (c : tie.After-other_side-side invariant-loop decreases-loop) →
-    let b = c.before.before.before.before.before.before.before in
-    let l = b.before.before.before.loop-made in
-    let a = b.before.before.before.before.args in
-    RunReached a.table.now a.configuration.now a.budget a.limit a.out.now a.spare.now (other l.side) c.before.before.progress-1.given.0.0 (l.k + 1)
-    b.step_across-answer.new.1.1.1.1.1.1.0 b.step_across-answer.new.1.1.1.1.1.1.1.0
+    let b = c.before.before.before.before.before in
+    let l = b.loop-made in
+    let a = b.args in
+    RunReached a.table.now a.configuration.now a.budget a.limit a.out.now a.spare.now (other l.side) c.in-On.made (l.k + 1)
+    b.step_across-answer.new.out b.step_across-answer.new.spare
 next c =
-    let b = c.before.before.before.before.before.before.before in
-    let l = b.before.before.before.loop-made in
+    let b = c.before.before.before.before.before in
+    let l = b.loop-made in
     let s = b.before.before.before.before in
     let a = s.args in
-    let j = c.before.before.before.before.judge in
+    let j = c.judge-progress in
     reached_more a.table.now a.configuration.now a.budget a.limit a.out.now a.spare.now l.side l.nodes l.k l.out l.spare l.invariant
-    b.step_across-answer.new.1.1.1.1.1.1.0 b.step_across-answer.new.1.1.1.1.1.1.1.0 b.step_across-answer.result b.step_across-answer.ensures c.before.before.progress-1.given.0.0
-    (sym j.ensures ∙ c.before.before.progress-1.given.1) b.step_across-answer.auto.1.1.1.1.1.1.0 b.step_across-answer.auto.1.1.1.1.1.1.1.0 (words_fit s).0 (words_fit s).1
+    b.step_across-answer.new.out b.step_across-answer.new.spare b.step_across-answer.result b.step_across-answer.ensures c.in-On.made
+    (sym j.ensures ∙ c.in-On.is) b.step_across-answer.auto.1.1.1.1.1.1.0 b.step_across-answer.auto.1.1.1.1.1.1.1.0 (words_fit s).0 (words_fit s).1
 
 add-k : tie.Need-overflow_add-k invariant-loop decreases-loop
 add-k c =
-    let b = c.before.before.before.before.before.before.before.before.before.before in
+    let b = c.before.before.before.before.before.before.before.before in
     let n = b.loop-made.invariant.counts in
-    let f = b.before.requires.2.few in
+    let f = b.requires.2.few in
     omega arith
 
 loop-less : tie.Need-loop-made-smaller invariant-loop decreases-loop
@@ -90,26 +90,28 @@ enum-known-progress-2 c = search rules
 
 same_length : tie.Need-shape_of-out-in-End invariant-loop decreases-loop
 same_length c =
-    let b = c.before.before.before.before.before.before in
-    b.step_across-answer.auto.1.1.1.1.1.1.0 ∙ b.before.before.before.loop-made.invariant.out_long
+    let b = c.before.before.before.before in
+    b.step_across-answer.auto.1.1.1.1.1.1.0 ∙ b.loop-made.invariant.out_long
 
 same-length-2 : tie.Need-shape_of-spare-in-End invariant-loop decreases-loop
 same-length-2 c =
-    let b = c.before.before.before.before.before.before in
-    b.step_across-answer.auto.1.1.1.1.1.1.1.0 ∙ b.before.before.before.loop-made.invariant.spare_long
+    let b = c.before.before.before.before in
+    b.step_across-answer.auto.1.1.1.1.1.1.1.0 ∙ b.loop-made.invariant.spare_long
 
 returns : tie.Need-returns-in-End invariant-loop decreases-loop
 returns c =
-    let b = c.before.before.before.before.before.before in
-    let l = b.before.before.before.loop-made in
-    let a = b.before.before.before.before.args in
-    let j = c.before.before.before.judge in
+    let b = c.before.before.before.before in
+    let l = b.loop-made in
+    let a = b.args in
+    let j = c.judge-progress in
     reached_end a.table.now a.configuration.now a.budget a.limit a.out.now a.spare.now l.side l.nodes l.k l.out l.spare l.invariant
-    b.step_across-answer.new.1.1.1.1.1.1.0 b.step_across-answer.new.1.1.1.1.1.1.1.0 b.step_across-answer.result b.step_across-answer.ensures c.before.progress-in-End-1.given.0.0
-    (sym j.ensures ∙ c.before.progress-in-End-1.given.1)
+    b.step_across-answer.new.out b.step_across-answer.new.spare b.step_across-answer.result b.step_across-answer.ensures c.in-End.answer
+    (sym j.ensures ∙ c.in-End.is)
 
 pub advance_spec : {M : Type 1} → statement M
-advance_spec = tie.close (tie.spec
+advance_spec =
+    tie.close
+    (tie.spec
     invariant-loop
     decreases-loop
     mul_words

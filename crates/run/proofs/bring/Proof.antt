@@ -32,12 +32,12 @@ enum_told c = search rules
 
 slice-aggregate-copy : tie.Need-slice_bounds-copy-end
 slice-aggregate-copy c =
-    let h = fits c.before.before.before.before Initial c.before.before.enum_told-1.given.1 in
+    let h = fits c.before Initial c.in-Initial.is in
     simp length-take (omega arith)
 
 copy-requires : tie.Need-copy-requires
 copy-requires c κs =
-    let h = fits c.before.before.before.before Initial c.before.before.enum_told-1.given.1 in
+    let h = fits c.before Initial c.in-Initial.is in
     simp length-take (omega arith)
 
 enum-told-2 : tie.Need-enum_told-in-Out
@@ -48,12 +48,12 @@ enum-told-3 c = search rules
 
 slice-aggregate-copy-2 : tie.Need-slice_bounds-copy-end-in-Spare
 slice-aggregate-copy-2 c =
-    let h = fits c.before.before.before.before Spare c.before.before.enum_told-in-Spare-1.given.1 in
+    let h = fits c.before Spare c.in-Spare.is in
     simp length-take (omega arith)
 
 copy-requires-2 : tie.Need-copy-requires-in-Spare
 copy-requires-2 c κs =
-    let h = fits c.before.before.before.before Spare c.before.before.enum_told-in-Spare-1.given.1 in
+    let h = fits c.before Spare c.in-Spare.is in
     simp length-take (omega arith)
 
 same_length : tie.Need-shape_of-out-in-Initial
@@ -61,22 +61,24 @@ same_length c = search rules
 
 returns : tie.Need-returns-in-Initial
 returns c =
-    let a = c.before.before.before.before.before.before.args in
-    rw c.before.before.before.before.enum_told-1.given.1 (c.before.copy.ensures ∙ paste_start a.out.now (take (2 * a.nodes) a.configuration.now))
+    let a = c.before.args in
+    rw c.in-Initial.is (c.copy.ensures ∙ paste_start a.out.now (take (2 * a.nodes) a.configuration.now))
 
 returns-2 : tie.Need-returns-in-Out
-returns-2 c = rw c.enum_told-in-Out-1.given.1 (sym (write_same (2 * c.before.before.args.nodes) c.before.before.args.out.now c.before.before.requires.1))
+returns-2 c = rw c.in-Out.is (sym (write_same (2 * c.args.nodes) c.args.out.now c.requires.1))
 
 same-length-2 : tie.Need-shape_of-out-in-Spare
 same-length-2 c = search rules
 
 returns-3 : tie.Need-returns-in-Spare
 returns-3 c =
-    let a = c.before.before.before.before.before.before.args in
-    rw c.before.before.before.before.enum_told-in-Spare-1.given.1 (c.before.copy-in-Spare.ensures ∙ paste_start a.out.now (take (2 * a.nodes) a.spare.now))
+    let a = c.before.args in
+    rw c.in-Spare.is (c.copy-in-Spare.ensures ∙ paste_start a.out.now (take (2 * a.nodes) a.spare.now))
 
 pub bring_spec : {M : Type 1} → statement M
-bring_spec = tie.close (tie.spec
+bring_spec =
+    tie.close
+    (tie.spec
     mul-end
     enum_told
     slice-aggregate-copy

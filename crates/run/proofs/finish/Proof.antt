@@ -49,17 +49,19 @@ same-length-2 c = search rules
 returns : tie.Need-returns
 returns c =
     let k = c.before.before.before.before in
-    let b = k.before.before.before.before.before.before in
+    let b = k.before in
     let a = b.args in
     let last = by_side a.side a.configuration.now a.out.now a.spare.now in
     record {
       leaves = zeros_behind a.words (2 * a.nodes) (take (2 * a.nodes) last) a.out.now (length-take-le (2 * a.nodes) last b.requires.0) b.requires.1 b.requires.2
-          k.before.before.before.bring.new.1.1.1.0 k.clear.new.0 k.before.before.before.bring.ensures k.clear.ensures;
-      leaves_spare = zeros_front a.words a.spare.now c.before.clear-2.new.0 b.requires.3 c.before.clear-2.ensures;
+          k.bring.new.out k.clear.new.words k.bring.ensures k.clear.ensures;
+      leaves_spare = zeros_front a.words a.spare.now c.clear-2.new.words b.requires.3 c.clear-2.ensures;
     }
 
 pub finish_spec : {M : Type 1} → statement M
-finish_spec = tie.close (tie.spec
+finish_spec =
+    tie.close
+    (tie.spec
     bring-requires
     mul-end
     mul-clear

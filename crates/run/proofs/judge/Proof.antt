@@ -9,8 +9,8 @@ enum-known-answer c = search rules
 
 returns : tie.Need-returns-then-budget-k
 returns c =
-    let a = c.before.before.before.before.args in
-    rw (c.before.before.answer-1.given.1, le-ltb a.k a.budget c.if-budget-k.true)
+    let a = c.args in
+    rw (c.in-Stepped.is, le-ltb a.k a.budget c.if-budget-k.true)
 
 enum_told : tie.Need-enum_told-1
 enum_told c = search rules
@@ -20,24 +20,26 @@ enum-told-2 c = search rules
 
 returns-2 : tie.Need-returns-then-k-budget
 returns-2 c =
-    let a = c.before.before.before.args in
-    rw (c.before.enum_told-in-Refused-1.given.1, lt-ltb a.k a.budget c.if-k-budget.true)
+    let a = c.args in
+    rw (c.in-Refused.is, lt-ltb a.k a.budget c.if-k-budget.true)
 
 returns-3 : tie.Need-returns-else-budget-k
 returns-3 c =
-    let a = c.before.before.before.before.args in
-    rw (c.before.before.answer-1.given.1, lt-ltb a.k a.budget c.if-budget-k.false)
+    let a = c.args in
+    rw (c.in-Stepped.is, lt-ltb a.k a.budget c.if-budget-k.false)
 
 returns-4 : tie.Need-returns-in-Stuck
-returns-4 c = rw c.enum_told-1.given.1
+returns-4 c = rw c.in-Stuck.is
 
 returns-5 : tie.Need-returns-else-k-budget
 returns-5 c =
-    let a = c.before.before.before.args in
-    rw (c.before.enum_told-in-Refused-1.given.1, le-ltb a.k a.budget c.if-k-budget.false)
+    let a = c.args in
+    rw (c.in-Refused.is, le-ltb a.k a.budget c.if-k-budget.false)
 
 pub judge_spec : {M : Type 1} → statement M
-judge_spec = tie.close (tie.spec
+judge_spec =
+    tie.close
+    (tie.spec
     enum-known-answer
     returns
     enum_told

@@ -24,9 +24,9 @@ enum-known-number c = search rules
 
 returns : tie.Need-returns-in-Refused
 returns c =
-    let b = c.before.before.before in
-    let a = b.before.before.args in
-    let n = c.before.number-1.given in
+    let b = c.before in
+    let a = b.args in
+    let n = c.number-1.given in
     turned_back_lem a.table.now a.configuration.now a.budget a.limit a.out.now a.spare.now n.0.0
     (early_refused a.table.now a.configuration.now a.budget a.limit (length a.out.now) (length a.spare.now) n.0.0 (sym b.accept.ensures.answer ∙ n.1))
 
@@ -40,28 +40,28 @@ check-sizes-requires : tie.Need-check_sizes-requires
 check-sizes-requires c κs = search rules
 
 -- the words are accepted
-indexed : (d : tie.In_default) → let b = d.before.before in Indexed b.before.before.args.table.now b.accept.new.1.1.0
-indexed d = d.before.before.accept.ensures.indexed d.enum_told-1.given.1
+indexed : (d : tie.In_default) → let b = d.before in Indexed b.args.table.now b.accept.new.index
+indexed d = d.accept.ensures.indexed d.in_default.is
 
-accepted : (d : tie.In_default) → Accepted d.before.before.before.before.args.configuration.now
-accepted d = d.before.before.accept.ensures.accepted d.enum_told-1.given.1
+accepted : (d : tie.In_default) → Accepted d.args.configuration.now
+accepted d = d.accept.ensures.accepted d.in_default.is
 
 -- what the check of the sizes says
-sizes : (z : tie.After-check_sizes) (r : Check) → z.check_sizes.result ≡ r → let a = z.before.before.before.before.before.before.args in
+sizes : (z : tie.After-check_sizes) (r : Check) → z.check_sizes.result ≡ r → let a = z.args in
     size_check a.budget max_steps (length a.configuration.now / 2) a.limit (run_short a.limit (length a.out.now) (length a.spare.now)) ≡ r
 sizes z r e =
-    let a = z.before.before.before.before.before.before.args in
-    ap (λ (short : Bool). size_check a.budget max_steps (length a.configuration.now / 2) a.limit short) (sym z.before.run_short-short.ensures) ∙ sym z.check_sizes.ensures ∙ e
+    let a = z.args in
+    ap (λ (short : Bool). size_check a.budget max_steps (length a.configuration.now / 2) a.limit short) (sym z.run_short-short.ensures) ∙ sym z.check_sizes.ensures ∙ e
 
 enum-known-number-2 : tie.Need-enum_known-number-in-Refused-check_sizes
 enum-known-number-2 c = search rules
 
 returns-2 : tie.Need-returns-in-Refused-check_sizes
 returns-2 c =
-    let z = c.before.before.before in
+    let z = c.before in
     let d = z.before.before in
-    let a = d.before.before.before.before.args in
-    let n = c.before.number-in-Refused-check_sizes-1.given in
+    let a = d.args in
+    let n = c.number-in-Refused-check_sizes-1.given in
     turned_back_lem a.table.now a.configuration.now a.budget a.limit a.out.now a.spare.now n.0.0
     (late_refused a.table.now a.configuration.now a.budget a.limit (length a.out.now) (length a.spare.now) (indexed d).table (accepted d).term (indexed d).is (accepted d).is n.0.0 (sizes z _ n.1))
 
@@ -71,10 +71,10 @@ enum-told-2 c = search rules
 run-accepted-requires : tie.Need-run_accepted-requires
 run-accepted-requires c κs =
     let y = c.before.before.before in
-    let z = y.before.before in
+    let z = y.before in
     let d = z.before.before in
-    let a = d.before.before.before.before.args in
-    (indexed d, accepted d, sized a.budget max_steps (length a.configuration.now / 2) a.limit (run_short a.limit (length a.out.now) (length a.spare.now)) (sizes z Good y.enum_told-in_default-check_sizes-1.given.1))
+    let a = d.args in
+    (indexed d, accepted d, sized a.budget max_steps (length a.configuration.now / 2) a.limit (run_short a.limit (length a.out.now) (length a.spare.now)) (sizes z Good y.in_default-check_sizes.is))
 
 same_length : tie.Need-shape_of-out
 same_length c = search rules
@@ -86,7 +86,9 @@ returns-3 : tie.Need-returns
 returns-3 c = search rules
 
 pub run_spec : {M : Type 1} → statement M
-run_spec = tie.close (tie.spec
+run_spec =
+    tie.close
+    (tie.spec
     accept-requires
     enum-known-number
     returns

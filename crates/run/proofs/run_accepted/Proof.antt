@@ -32,14 +32,16 @@ same-length-2 c = search rules
 
 returns : tie.Need-returns
 returns c =
-    let f = c.before.before.finish in
+    let f = c.finish in
     let d = c.before.before.before.before.before.before.before in
-    let a = d.before.before.before.args in
-    ended a.table.now a.configuration.now a.budget a.limit a.out.now a.spare.now d.advance-ended.result d.advance-ended.new.1.1.1.1.1.0 d.advance-ended.new.1.1.1.1.1.1.0
+    let a = d.args in
+    ended a.table.now a.configuration.now a.budget a.limit a.out.now a.spare.now d.advance-ended.result d.advance-ended.new.out d.advance-ended.new.spare
     f.new.1.1.1.1.0 f.new.1.1.1.1.1.0 d.advance-ended.ensures f.ensures
 
 pub run_accepted_spec : {M : Type 1} → statement M
-run_accepted_spec = tie.close (tie.spec
+run_accepted_spec =
+    tie.close
+    (tie.spec
     advance-requires
     mul_words
     finish-requires

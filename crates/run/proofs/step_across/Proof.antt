@@ -17,35 +17,35 @@ enum_told c = search rules
 
 step-into-requires : tie.Need-step_into-requires
 step-into-requires c κs =
-    let b = c.before.before.before in
-    (b.requires.0, reads_from b Initial c.before.enum_told-1.given.1, b.requires.2)
+    let b = c.before.before in
+    (b.requires.0, reads_from b Initial c.in-Initial.is, b.requires.2)
 
 enum-told-2 : tie.Need-enum_told-in-Out
 enum-told-2 c = search rules
 
 step-into-requires-2 : tie.Need-step_into-requires-in-Out
 step-into-requires-2 c κs =
-    let b = c.before.before.before.before in
-    (b.requires.0, reads_from b Out c.before.before.enum_told-in-Out-1.given.1, b.requires.3)
+    let b = c.before in
+    (b.requires.0, reads_from b Out c.in-Out.is, b.requires.3)
 
 enum-told-3 : tie.Need-enum_told-in-Spare
 enum-told-3 c = search rules
 
 step-into-requires-3 : tie.Need-step_into-requires-in-Spare
 step-into-requires-3 c κs =
-    let b = c.before.before.before.before in
-    (b.requires.0, reads_from b Spare c.before.before.enum_told-in-Spare-1.given.1, b.requires.2)
+    let b = c.before in
+    (b.requires.0, reads_from b Spare c.in-Spare.is, b.requires.2)
 
 same_length : tie.Need-shape_of-out-in-Initial
 same_length c = search rules
 
 returns : tie.Need-returns-in-Initial
 returns c =
-    let s = c.before.step-into in
-    let b = c.before.before.before.before.before in
+    let s = c.step_into in
+    let b = c.before.before.before.before in
     let a = b.args in
     across_at a.configuration.now a.out.now a.spare.now a.side a.table.now s.new.1.1.1.1.0 a.spare.now a.nodes a.words s.result Initial
-    c.before.before.before.enum_told-1.given.1 s.ensures refl
+    c.in-Initial.is s.ensures refl
 
 same-length-2 : tie.Need-shape_of-out-in-Out
 same-length-2 c = search rules
@@ -55,11 +55,11 @@ same-length-3 c = search rules
 
 returns-2 : tie.Need-returns-in-Out
 returns-2 c =
-    let s = c.before.step-into2 in
-    let b = c.before.before.before.before.before.before in
+    let s = c.step_into-in-Out in
+    let b = c.before in
     let a = b.args in
     across_at a.configuration.now a.out.now a.spare.now a.side a.table.now a.out.now s.new.1.1.1.1.0 a.nodes a.words s.result Out
-    c.before.before.before.before.enum_told-in-Out-1.given.1 s.ensures refl
+    c.in-Out.is s.ensures refl
 
 same-length-4 : tie.Need-shape_of-out-in-Spare
 same-length-4 c = search rules
@@ -69,14 +69,16 @@ same-length-5 c = search rules
 
 returns-3 : tie.Need-returns-in-Spare
 returns-3 c =
-    let s = c.before.step-into3 in
-    let b = c.before.before.before.before.before.before in
+    let s = c.step_into-in-Spare in
+    let b = c.before in
     let a = b.args in
     across_at a.configuration.now a.out.now a.spare.now a.side a.table.now s.new.1.1.1.1.0 a.spare.now a.nodes a.words s.result Spare
-    c.before.before.before.before.enum_told-in-Spare-1.given.1 s.ensures refl
+    c.in-Spare.is s.ensures refl
 
 pub step_across_spec : {M : Type 1} → statement M
-step_across_spec = tie.close (tie.spec
+step_across_spec =
+    tie.close
+    (tie.spec
     enum_told
     step-into-requires
     enum-told-2

@@ -29,13 +29,15 @@ same_length c = search rules
 
 returns : tie.Need-returns
 returns c =
-    let b = c.before.before.before.before in
+    let b = c.before in
     let a = b.args in
     let l = length-take-le a.words a.to.now b.requires.2 in
-    steps_into a.table.now (take (2 * a.nodes) a.from.now) a.words a.to.now c.before.apply_earliest.new.1.1.1.0 c.before.apply_earliest.result l c.before.apply_earliest.ensures (c.before.apply_earliest.auto.1.1.1.0 ∙ l)
+    steps_into a.table.now (take (2 * a.nodes) a.from.now) a.words a.to.now c.apply_earliest.new.out c.apply_earliest.result l c.apply_earliest.ensures (c.apply_earliest.auto.1.1.1.0 ∙ l)
 
 pub step_into_spec : {M : Type 1} → statement M
-step_into_spec = tie.close (tie.spec
+step_into_spec =
+    tie.close
+    (tie.spec
     mul-end
     slice-aggregate-apply-earliest
     slice-relend-prefix-apply-earliest

@@ -22,19 +22,21 @@ enum-known-r c = search rules
 -- src/lib.rt:150:1
 returns : tie.Need-returns-in-Good
 returns c =
-    let t = c.before.before.before in
+    let t = c.before.before in
     let s = t.before.before in
-    good_accepted s.args.table.now s.args.configuration.now s.args.index.now t.index_table.new.1.0 t.index_table.result t.index_table.ensures c.before.enum_told-1.given.1 c.check_configuration.result c.check_configuration.ensures
+    good_accepted s.args.table.now s.args.configuration.now s.args.index.now t.index_table.new.index t.index_table.result t.index_table.ensures c.in-Good.is c.check_configuration.result c.check_configuration.ensures
 
 -- src/lib.rt:150:1
 returns-2 : tie.Need-returns-in-Refused
 returns-2 c =
-    let t = c.before.before.before in
+    let t = c.before in
     let s = t.before.before in
-    refused_accepted s.args.table.now s.args.configuration.now s.args.index.now t.index_table.new.1.0 t.index_table.result t.index_table.ensures c.before.r-1.given.0.0 c.before.r-1.given.1
+    refused_accepted s.args.table.now s.args.configuration.now s.args.index.now t.index_table.new.index t.index_table.result t.index_table.ensures c.in-Refused.r c.in-Refused.is
 
 pub accept_spec : {M : Type 1} → statement M
-accept_spec = tie.close (tie.spec
+accept_spec =
+    tie.close
+    (tie.spec
     index-table-requires
     enum_told
     check-configuration-requires

@@ -40,13 +40,13 @@ module _ (b : tie.After-applies invariant-loop decreases-loop) where
   cs = start.args.configuration.now
 
   abbrev starts : List ℕ
-  starts = b.before.judge-found.last.1.1.1.1.0
+  starts = b.judge-found.new.starts
 
   abbrev ends : List ℕ
-  ends = b.before.judge-found.last.1.1.1.1.1.0
+  ends = b.judge-found.new.ends
 
-  judged : JudgeIs ws cs turn.loop-found.rule starts ends b.before.judge-found.result
-  judged = b.before.judge-found.ensures
+  judged : JudgeIs ws cs turn.loop-found.rule starts ends b.judge-found.result
+  judged = b.judge-found.ensures
 
 -- it applies
 module _ (c : tie.Then-applies invariant-loop decreases-loop) where
@@ -54,7 +54,7 @@ module _ (c : tie.Then-applies invariant-loop decreases-loop) where
   matched =
       let b = c.before in
       let s = start b in
-      judged_matched (ws b) (cs b) (turn b).loop-found.rule (turn b).loop-found.invariant.1 (starts b) (ends b) b.before.judge-found.result (judged b) (b.applies.ensures.yes c.if-applies.true) s.pre.0.0 s.pre.0.1
+      judged_matched (ws b) (cs b) (turn b).loop-found.rule (turn b).loop-found.invariant.1 (starts b) (ends b) b.judge-found.result (judged b) (b.applies.ensures.yes c.if-applies.true) s.pre.0.0 s.pre.0.1
 
 -- it does not, and the next is sought
 module _ (k : tie.After-seek-i invariant-loop decreases-loop) where
@@ -63,25 +63,25 @@ module _ (k : tie.After-seek-i invariant-loop decreases-loop) where
 
   none_here : (t : Table) (g : Term) → IsTable (ws last) t → IsConfiguration (cs last) g → successor_by t (turn last).loop-found.rule g ≡ none
   none_here =
-      λ t g p q. verdict_none (ws last) (cs last) (turn last).loop-found.rule (turn last).loop-found.inv.1 last.before.judge-found.result (judged last).verdict t g p q (last.applies.ensures.no k.before.before.if-applies.left)
+      λ t g p q. verdict_none (ws last) (cs last) (turn last).loop-found.rule (turn last).loop-found.invariant.1 last.judge-found.result (judged last).verdict t g p q (last.applies.ensures.no k.if-applies.false)
 
 loop-holds : tie.Need-loop-found-init invariant-loop decreases-loop
 loop-holds c = (refl, c.requires.1.0, c.requires.1.2, trying_first c.args.table.now c.args.configuration.now c.args.first c.args.from c.args.to, λ e. refl)
 
 judge-requires : tie.Need-judge-found-requires invariant-loop decreases-loop
-judge-requires c κs = let l = c.before.before in (l.before.requires.0.0, l.before.requires.0.1, l.loop-found.invariant.1)
+judge-requires c κs = let l = c.before.before in (l.requires.0.0, l.requires.0.1, l.loop-found.invariant.1)
 
 applies-requires : tie.Need-applies-requires invariant-loop decreases-loop
 applies-requires c κs = search rules
 
 write-within-requires : tie.Need-write_within-requires invariant-loop decreases-loop
-write-within-requires c κs = let t = c.before.before.before in ((start t.before).pre.0.0, matched t)
+write-within-requires c κs = let t = c.before.before.before in ((start t.before).requires.0.0, matched t)
 
 same_length : tie.Need-shape_of-out-then-applies invariant-loop decreases-loop
 same_length c =
     let w = c.before in
     let l = turn w.before.before.before.before.before in
-    w.write_within.auto.1.1.1.1.1.1.0 ∙ ap length l.loop-found.inv.0
+    w.write_within.auto.1.1.1.1.1.1.0 ∙ ap length l.loop.inv.0
 
 returns : tie.Need-returns-then-applies invariant-loop decreases-loop
 returns c =
@@ -90,17 +90,17 @@ returns c =
     let b = t.before in
     let l = turn b in
     let s = start b in
-    subst (λ (out : List ℤ). CodedAmongIs (ws b) (cs b) s.args.first s.args.from s.args.to out w.write_within.new.1.1.1.1.1.1.0 s.args.verdict.now l.loop-found.verdict w.write_within.result) l.loop-found.inv.0
-    (one_applies (ws b) (cs b) s.args.first s.args.from s.args.to l.loop-found.rule l.loop-found.i l.loop-found.inv.3 l.loop-found.inv.1 (starts b) (ends b) b.before.judge-found.result (judged b) (b.applies.ensures.yes t.if-applies.true) l.loop-found.out w.write_within.new.1.1.1.1.1.1.0 s.args.verdict.now l.loop-found.verdict w.write_within.result w.write_within.ensures (alone_by (ws b) (cs b) s.args.first s.args.from s.args.to l.loop-found.inv.3 (starts b) (ends b) b.before.judge-found.result (judged b) s.args.verdict.now l.loop-found.verdict (λ e z. l.loop-found.inv.4 e ∙ (z ∙ sym (ap code (b.applies.ensures.yes t.if-applies.true))))))
+    subst (λ (out : List ℤ). CodedAmongIs (ws b) (cs b) s.args.first s.args.from s.args.to out w.write_within.new.out s.args.verdict.now l.loop.verdict w.write_within.result) l.loop.inv.0
+    (one_applies (ws b) (cs b) s.args.first s.args.from s.args.to l.loop.rule l.loop.i l.loop.inv.3 l.loop.inv.1 (starts b) (ends b) b.judge-found.result (judged b) (b.applies.ensures.yes t.if-applies.true) l.loop.out w.write_within.new.out s.args.verdict.now l.loop.verdict w.write_within.result w.write_within.ensures (alone_by (ws b) (cs b) s.args.first s.args.from s.args.to l.loop.inv.3 (starts b) (ends b) b.judge-found.result (judged b) s.args.verdict.now l.loop.verdict (λ e z. l.loop.inv.4 e ∙ (z ∙ sym (ap code (b.applies.ensures.yes t.if-applies.true))))))
 
 seek-requires : tie.Need-seek-i-requires invariant-loop decreases-loop
-seek-requires c κs = let l = turn c.before.before in (l.before.pre.0.0, l.before.pre.1.1, l.loop-found.inv.2)
+seek-requires c κs = let l = turn c.before.before in (l.before.pre.0.0, l.before.pre.1.1, l.loop.inv.2)
 
 coded-requires : tie.Need-coded-requires invariant-loop decreases-loop
 coded-requires c κs = search rules
 
 same-length-2 : tie.Need-shape_of-out-then-to-i invariant-loop decreases-loop
-same-length-2 c = let l = turn (last c.before) in ap length l.loop-found.inv.0
+same-length-2 c = let l = turn (last c.before) in ap length l.loop.inv.0
 
 returns-2 : tie.Need-returns-then-to-i invariant-loop decreases-loop
 returns-2 c =
@@ -108,16 +108,16 @@ returns-2 c =
     let b = last k in
     let l = turn b in
     let s = start b in
-    rw l.loop-found.inv.0 (none_applies (ws b) (cs b) s.args.first s.args.from s.args.to l.loop-found.rule l.loop-found.i l.loop-found.inv.3 (none_here k) s.args.root k.seek-i.result k.seek-i.ensures s.pre.1.1 s.pre.1.3 s.args.out.now s.args.verdict.now k.before.coded.result c.if-to-i.true (alone_by (ws b) (cs b) s.args.first s.args.from s.args.to l.loop-found.inv.3 (starts b) (ends b) b.before.judge-found.result (judged b) s.args.verdict.now k.before.coded.result (λ e z. k.before.coded.ensures)))
+    rw l.loop.inv.0 (none_applies (ws b) (cs b) s.args.first s.args.from s.args.to l.loop.rule l.loop.i l.loop.inv.3 (none_here k) s.args.root k.seek-i.result k.seek-i.ensures s.pre.1.1 s.pre.1.3 s.args.out.now s.args.verdict.now k.coded.result c.if-to-i.true (alone_by (ws b) (cs b) s.args.first s.args.from s.args.to l.loop.inv.3 (starts b) (ends b) b.before.judge.result (judged b) s.args.verdict.now k.coded.result (λ e z. k.coded.ensures)))
 
 ordered-requires : tie.Need-ordered-rule-requires invariant-loop decreases-loop
 ordered-requires c κs = (start (last c.before)).pre.0.0
 
 add-i : tie.Need-overflow_add-i invariant-loop decreases-loop
-add-i c = let h = c.before.if-to-i.false in omega arith
+add-i c = let h = c.if-to-i.false in omega arith
 
 loop-less : tie.Need-loop-found-smaller invariant-loop decreases-loop
-loop-less c = let h = c.before.if-to-i.false in let f = c.before.before.seek-i.ensures.low in omega arith
+loop-less c = let h = c.if-to-i.false in let f = c.seek-i.ensures.low in omega arith
 
 loop-again : tie.Need-loop-found-preserved invariant-loop decreases-loop
 loop-again c =
@@ -125,16 +125,18 @@ loop-again c =
     let b = last k in
     let l = turn b in
     let s = start b in
-    let h = c.before.if-to-i.false in (
-      l.loop-found.inv.0,
+    let h = c.if-to-i.false in (
+      l.loop.inv.0,
       position_names s.pre.0.0 s.pre.1.1 h c.ordered-rule.ensures,
       omega arith,
-      trying_on (ws b) (cs b) s.args.first s.args.from s.args.to l.loop-found.rule l.loop-found.i l.loop-found.inv.3 (none_here k) s.args.root k.seek-i.result k.seek-i.ensures s.pre.1.1 s.pre.1.3 c.ordered-rule.result h c.ordered-rule.ensures,
-      λ e. absurd (let a = l.loop-found.inv.3.low in let d = k.seek-i.ensures.low in let z : ⊥ = omega arith in z),
+      trying_on (ws b) (cs b) s.args.first s.args.from s.args.to l.loop.rule l.loop.i l.loop.inv.3 (none_here k) s.args.root k.seek-i.result k.seek-i.ensures s.pre.1.1 s.pre.1.3 c.ordered-rule.result h c.ordered-rule.ensures,
+      λ e. absurd (let a = l.loop.inv.3.low in let d = k.seek-i.ensures.low in let z : ⊥ = omega arith in z),
     )
 
 pub apply_coded_spec : {M : Type 1} → statement M
-apply_coded_spec = tie.close (tie.spec
+apply_coded_spec =
+    tie.close
+    (tie.spec
     invariant-loop
     decreases-loop
     loop-holds

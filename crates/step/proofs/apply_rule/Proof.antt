@@ -35,7 +35,9 @@ returns-2 c =
     by_that_rule a.table.now a.configuration.now a.index.now a.out.now s.requires.0 s.requires.1 a.rule _ _ _ w.apply_among.result w.apply_among.ensures
 
 pub apply_rule_spec : {M : Type 1} → statement M
-apply_rule_spec = tie.close (tie.spec
+apply_rule_spec =
+    tie.close
+    (tie.spec
     rule-count-requires
     returns
     apply-among-requires

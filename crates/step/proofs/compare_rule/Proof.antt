@@ -19,7 +19,7 @@ module _ (m : tie.After-misfit-1) where
       let e = m.before.before in
       let r = e.before in
       let a = start.args in
-      below_names a.table.now a.configuration.now a.index.now [] start.pre.0 start.pre.1 a.rule r.rule_count-count.result r.rule_count-count.ensures e.if-count-rule.left
+      below_names a.table.now a.configuration.now a.index.now [] start.requires.0 start.requires.1 a.rule r.rule_count-count.result r.rule_count-count.ensures e.if-count-rule.false
 
 -- the left's place
 in_order : (p : tie.After-left-left) → p.left-left.result.from ≤ p.left-left.result.to
@@ -74,7 +74,9 @@ returns-3 c =
     left_matches a.table.now a.configuration.now a.index.now a.rule s.pre.0 s.pre.1 (names m) _ _ _ w.apply_among.result w.apply_among.ensures p.left-left.result.from p.left-left.result.to _ p.left-left.ensures e.if-misfit-ne0.false (λ q. omega arith)
 
 pub compare_rule_spec : {M : Type 1} → statement M
-compare_rule_spec = tie.close (tie.spec
+compare_rule_spec =
+    tie.close
+    (tie.spec
     rule-count-requires
     returns
     sub-apply-among

@@ -25,11 +25,13 @@ decoded-requires c κs = search rules
 returns : tie.Need-returns
 returns c =
     let w = c.before.before in
-    let a = w.before.before.before.args in
+    let a = w.args in
     verdict_by_lem a.table.now a.configuration.now a.rule _ _ _ w.apply_coded.result c.decoded.result w.apply_coded.ensures c.decoded.ensures
 
 pub judge_alone_spec : {M : Type 1} → statement M
-judge_alone_spec = tie.close (tie.spec
+judge_alone_spec =
+    tie.close
+    (tie.spec
     sub-apply-coded
     part-none-start
     part-none-end

@@ -13,8 +13,8 @@ enum_told c = search rules
 
 compare-rule-requires : tie.Need-compare_rule-requires
 compare-rule-requires c κs =
-    let a = c.before.before.before in
-    let e = c.before.enum_told-1.given.1 in (a.accept.ensures.indexed e, a.accept.ensures.accepted e)
+    let a = c.before.before in
+    let e = c.in-Good.is in (a.accept.ensures.indexed e, a.accept.ensures.accepted e)
 
 enum-known-r : tie.Need-enum_known-r
 enum-known-r c = search rules
@@ -24,12 +24,14 @@ returns c = search rules
 
 returns-2 : tie.Need-returns-in-Refused
 returns-2 c =
-    let a = c.before.before.before in
+    let a = c.before in
     let s = a.before.before in
-    refused_match s.args.table.now s.args.configuration.now c.before.r-1.given.0.0 (sym a.accept.ensures.answer ∙ c.before.r-1.given.1) s.args.rule
+    refused_match s.args.table.now s.args.configuration.now c.in-Refused.r (sym a.accept.ensures.answer ∙ c.in-Refused.is) s.args.rule
 
 pub match_rule_spec : {M : Type 1} → statement M
-match_rule_spec = tie.close (tie.spec
+match_rule_spec =
+    tie.close
+    (tie.spec
     accept-requires
     enum_told
     compare-rule-requires

@@ -15,8 +15,8 @@ enum_told c = search rules
 -- src/lib.rt:177:24
 apply-earliest-requires : tie.Need-apply_earliest-requires
 apply-earliest-requires c κs =
-    let a = c.before.before.before.before in
-    let e = c.before.before.enum_told-1.given.1 in (a.accept.ensures.indexed e, a.accept.ensures.accepted e)
+    let a = c.before.before.before in
+    let e = c.in-Good.is in (a.accept.ensures.indexed e, a.accept.ensures.accepted e)
 
 -- src/lib.rt:178:24
 enum-known-r : tie.Need-enum_known-r
@@ -33,12 +33,14 @@ returns c = search rules
 -- src/lib.rt:172:1
 returns-2 : tie.Need-returns-in-Refused
 returns-2 c =
-    let a = c.before.before.before in
+    let a = c.before in
     let s = a.before.before in
-    refused_step s.args.table.now s.args.configuration.now s.args.out.now c.before.r-1.given.0.0 (sym a.accept.ensures.answer ∙ c.before.r-1.given.1)
+    refused_step s.args.table.now s.args.configuration.now s.args.out.now c.in-Refused.r (sym a.accept.ensures.answer ∙ c.in-Refused.is)
 
 pub step_spec : {M : Type 1} → statement M
-step_spec = tie.close (tie.spec
+step_spec =
+    tie.close
+    (tie.spec
     accept-requires
     enum_told
     apply-earliest-requires

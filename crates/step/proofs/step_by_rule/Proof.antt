@@ -15,8 +15,8 @@ enum_told c = search rules
 -- src/lib.rt:166:24
 apply-rule-requires : tie.Need-apply_rule-requires
 apply-rule-requires c κs =
-    let a = c.before.before.before.before in
-    let e = c.before.before.enum_told-1.given.1 in (a.accept.ensures.indexed e, a.accept.ensures.accepted e)
+    let a = c.before.before.before in
+    let e = c.in-Good.is in (a.accept.ensures.indexed e, a.accept.ensures.accepted e)
 
 -- src/lib.rt:167:24
 enum-known-r : tie.Need-enum_known-r
@@ -33,12 +33,14 @@ returns c = search rules
 -- src/lib.rt:156:1
 returns-2 : tie.Need-returns-in-Refused
 returns-2 c =
-    let a = c.before.before.before in
+    let a = c.before in
     let s = a.before.before in
-    refused_by_rule s.args.table.now s.args.configuration.now s.args.out.now c.before.r-1.given.0.0 (sym a.accept.ensures.answer ∙ c.before.r-1.given.1) s.args.rule
+    refused_by_rule s.args.table.now s.args.configuration.now s.args.out.now c.in-Refused.r (sym a.accept.ensures.answer ∙ c.in-Refused.is) s.args.rule
 
 pub step_by_rule_spec : {M : Type 1} → statement M
-step_by_rule_spec = tie.close (tie.spec
+step_by_rule_spec =
+    tie.close
+    (tie.spec
     accept-requires
     enum_told
     apply-rule-requires

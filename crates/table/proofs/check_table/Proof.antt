@@ -7,9 +7,11 @@ index-table-requires : tie.Need-index_table-requires
 index-table-requires c κs = search rules
 
 returns : tie.Need-returns
-returns c = check_table_contract c.before.before.args.table.now c.index_table.result c.index_table.ensures.answer
+returns c = check_table_contract c.args.table.now c.index_table.result c.index_table.ensures.answer
 
 pub check_table_spec : {M : Type 1} → statement M
-check_table_spec = tie.close (tie.spec
+check_table_spec =
+    tie.close
+    (tie.spec
     index-table-requires
     returns)

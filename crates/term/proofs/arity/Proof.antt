@@ -40,43 +40,45 @@ others n h a b c d e f g i =
 
 returns : tie.Need-returns-in-0
 unfolding arity_of
-returns c = rw c.match.keys1
+returns c = rw c.in-0.is
 
 returns-2 : tie.Need-returns-in-1
 unfolding arity_of
-returns-2 c = rw c.match.keys2
+returns-2 c = rw c.in-1.is
 
 returns-3 : tie.Need-returns-in-2
 unfolding arity_of
-returns-3 c = rw c.match.keys3
+returns-3 c = rw c.in-2.is
 
 returns-4 : tie.Need-returns-in-6
 unfolding arity_of
-returns-4 c = rw c.match.keys4
+returns-4 c = rw c.in-6.is
 
 returns-5 : tie.Need-returns-in-7
 unfolding arity_of
-returns-5 c = rw c.match.keys5
+returns-5 c = rw c.in-7.is
 
 returns-6 : tie.Need-returns-in-14
 unfolding arity_of
-returns-6 c = rw c.match.keys6
+returns-6 c = rw c.in-14.is
 
 returns-7 : tie.Need-returns-in-15
 unfolding arity_of
-returns-7 c = rw c.match.keys7
+returns-7 c = rw c.in-15.is
 
 returns-8 : tie.Need-returns-in-17
 unfolding arity_of
-returns-8 c = rw c.match.keys8
+returns-8 c = rw c.in-17.is
 
 returns-9 : tie.Need-returns-in_default
 returns-9 c =
-    let r = c.match.rest in
-    others c.before.args.code c.before.requires r.0.0.0.0.0.0.0.1 r.0.0.0.0.0.0.1 r.0.0.0.0.0.1 r.0.0.0.0.1 r.0.0.0.1 r.0.0.1 r.0.1 r.1
+    let r = c.in_default.rest in
+    others c.args.code c.requires r.0.0.0.0.0.0.0.1 r.0.0.0.0.0.0.1 r.0.0.0.0.0.1 r.0.0.0.0.1 r.0.0.0.1 r.0.0.1 r.0.1 r.1
 
 pub arity_spec : {M : Type 1} → statement M
-arity_spec = tie.close (tie.spec
+arity_spec =
+    tie.close
+    (tie.spec
     returns
     returns-2
     returns-3

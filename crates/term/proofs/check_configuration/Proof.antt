@@ -13,7 +13,7 @@ use Rattle.term.proofs.check_configuration.Statement.{statement}
 use Rattle.term.proofs.check_configuration.Tie as tie
 
 returns : tie.Need-returns-then-n-gt-MAX_CONFIGURATION_WORDS
-returns c = refused_long c.before.args.words.now c.if-n-gt-MAX_CONFIGURATION_WORDS.true
+returns c = refused_long c.args.words.now c.if-n-gt-MAX_CONFIGURATION_WORDS.true
 
 ground-terms-requires : tie.Need-ground_terms-requires
 ground-terms-requires c κs = search rules
@@ -26,52 +26,54 @@ enum_told c = search rules
 
 returns-2 : tie.Need-returns-in_default
 returns-2 c =
-    let ws = c.before.before.before.before.before.args.words.now in
-    refused_nowhere ws (nowhere_found ws c.before.before.ground_terms.ensures c.enum_told-1.given.1)
+    let ws = c.args.words.now in
+    refused_nowhere ws (nowhere_found ws c.ground_terms.ensures c.in_default.is)
 
 returns-3 : tie.Need-returns-then-e-n
 returns-3 c =
-    let u = c.before.before in
-    let ws = u.before.before.before.before.before.args.words.now in
-    refused_elsewhere ws u.e-1.given.0.0 (end_found ws u.before.before.ground_terms.ensures u.e-1.given.1) c.if-e-n.true
+    let u = c.before in
+    let ws = u.args.words.now in
+    refused_elsewhere ws u.in-At.e (end_found ws u.ground_terms.ensures u.in-At.is) c.if-e-n.true
 
 -- the walk ended where the words end
-whole : (c : tie.Else-e-n) → Walked c.before.before.before.before.before.before.before.args.words.now
+whole : (c : tie.Else-e-n) → Walked c.args.words.now
 whole c =
-    let u = c.before.before in
-    let ws = u.before.before.before.before.before.args.words.now in
-    walked ws u.e-1.given.0.0 (end_found ws u.before.before.ground_terms.ensures u.e-1.given.1) c.if-e-n.false
+    let u = c.before in
+    let ws = u.args.words.now in
+    walked ws u.in-At.e (end_found ws u.ground_terms.ensures u.in-At.is) c.if-e-n.false
 
-short : (c : tie.Else-e-n) → length c.before.before.before.before.before.before.before.args.words.now ≤ 65536
-short c = c.before.before.before.before.before.before.if-n-gt-MAX_CONFIGURATION_WORDS.false
+short : (c : tie.Else-e-n) → length c.args.words.now ≤ 65536
+short c = c.if-n-gt-MAX_CONFIGURATION_WORDS.false
 
 in-order-requires : tie.Need-in_order-requires
-in-order-requires c κs = let u = c.before.before.before in walked_fills u.before.before.before.before.before.args.words.now (whole c.before)
+in-order-requires c κs = let u = c.before.before in walked_fills u.args.words.now (whole c.before)
 
 -- what was answered of the order
-said : (c : tie.After-in_order) (b : Bool) → not c.in_order.result ≡ not b → InOrder c.before.before.before.before.before.before.before.before.before.args.words.now 0 (length c.before.before.before.before.before.before.before.before.before.args.words.now) b
+said : (c : tie.After-in_order) (b : Bool) → not c.in_order.result ≡ not b → InOrder c.args.words.now 0 (length c.args.words.now) b
 said c b e =
-    let ws = c.before.before.before.before.before.before.before.before.before.args.words.now in
+    let ws = c.args.words.now in
     subst (InOrder ws 0 (length ws)) (answered c.in_order.result b e) c.in_order.ensures
 
 returns-4 : tie.Need-returns-then-not-in_order
-returns-4 c = refused_order c.before.before.before.before.before.before.before.before.before.before.args.words.now (said c.before false c.if-not-in_order.true-raw)
+returns-4 c = refused_order c.args.words.now (said c.before false c.if-not-in_order.true-raw)
 
 returns-5 : tie.Need-returns-else-not-in_order
 returns-5 c =
     let u = c.before.before.before in
-    accepted_order u.before.before.before.before.before.before.before.args.words.now (whole u) (short u) (said c.before true c.if-not-in_order.false-raw)
+    accepted_order u.args.words.now (whole u) (short u) (said c.before true c.if-not-in_order.false-raw)
 
 returns-6 : tie.Need-returns-else-met
 returns-6 c =
-    let u = c.before.before.before in
-    let ws = u.before.before.before.before.before.args.words.now in
-    let e = u.e-1.given.0.0 in
+    let u = c.before.before in
+    let ws = u.args.words.now in
+    let e = u.in-At.e in
     accepted_none ws (whole c.before) (short c.before)
-    (subst (NoneMet ws 0) c.before.if-e-n.false (u.before.before.ground_terms.ensures.none e (u.e-1.given.1 ∙ ap (G.At e) c.if-met.false)))
+    (subst (NoneMet ws 0) c.if-e-n.false (u.ground_terms.ensures.none e (u.in-At.is ∙ ap (G.At e) c.if-met.false)))
 
 pub check_configuration_spec : {M : Type 1} → statement M
-check_configuration_spec = tie.close (tie.spec
+check_configuration_spec =
+    tie.close
+    (tie.spec
     returns
     ground-terms-requires
     enum-known-e

@@ -20,15 +20,15 @@ use Rattle.term.proofs.children.Tie as tie
 
 -- a call's function code
 module _ (c : tie.Else-t-ne-CALL) where
-  called : (f : ℕ) × CallNode f c.before.args.t c.before.args.d (children_of c.before.args.t c.before.args.d)
+  called : (f : ℕ) × CallNode f c.args.t c.args.d (children_of c.args.t c.args.d)
   called =
       let s = c.before in
       call_node s.args.t s.args.d s.requires (same_bits s.args.t (pos call_tag) s.ranges.t (record { sfits = lit< tt }) c.if-t-ne-CALL.false)
 
-  number : Natural c.before.args.d 0
+  number : Natural c.args.d 0
   number =
-      let d = c.before.args.d in
-      let f = c.before.ranges.d in
+      let d = c.args.d in
+      let f = c.ranges.d in
       natural d 0 f (ap (λ (z : ℤ). lt_z z (pos 0)) (to_z-of_z w64 d f ∙ called.1.datum) ∙ le-ltb called.0 0 (omega arith))
 
   same : number.number ≡ called.0
@@ -57,7 +57,9 @@ returns-2 c =
     c.arity.ensures ∙ (ap arity_of ((number u).gives ∙ same u) ∙ sym (called u).1.arity)
 
 pub children_spec : {M : Type 1} → statement M
-children_spec = tie.close (tie.spec
+children_spec =
+    tie.close
+    (tie.spec
     plain-children-requires
     returns
     cast-arity

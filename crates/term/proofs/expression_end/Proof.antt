@@ -26,37 +26,37 @@ abbrev decreases-loop : tie.decreases-loop-left
 decreases-loop s at i₀ left₀ i left = length s - i
 
 -- the turn at the node that stands at i, by the term that is required
-turn : (c : tie.In-loop-left invariant-loop decreases-loop) → Turn any_label c.before.before.args.s.now c.before.loop-left.i c.before.loop-left.left (c.before.before.args.at + length (encode (single c.before.before.requires.term)))
+turn : (c : tie.In-loop-left invariant-loop decreases-loop) → Turn any_label c.args.s.now c.loop-left.i c.loop-left.false (c.args.at + length (encode (single c.requires.term)))
 turn c =
-    let s = c.before.before.args.s.now in
-    let at = c.before.before.args.at in
-    let g = c.before.before.requires in
-    let l = c.before.loop-left in
+    let s = c.args.s.now in
+    let at = c.args.at in
+    let g = c.requires in
+    let l = c.loop-left in
     place_turn any_label s l.i l.left (at + length (encode (single g.term))) c.loop-left-test.true
     (sym l.invariant ∙ term_ends s at g.term g.shape g.stands)
 
 -- the two words that the code read are the node's
 module _ (c : tie.After-word-d invariant-loop decreases-loop) where
   abbrev words : List ℤ
-  words = c.before.before.before.before.before.args.s.now
+  words = c.args.s.now
 
   abbrev i : ℕ
-  i = c.before.before.before.before.loop-left.i
+  i = c.loop-left.i
 
-  abbrev here : Turn any_label words i c.before.before.before.before.loop-left.left (c.before.before.before.before.before.args.at + length (encode (single c.before.before.before.before.before.requires.term)))
+  abbrev here : Turn any_label words i c.loop-left.false (c.args.at + length (encode (single c.requires.term)))
   here = turn c.before.before.before
 
-  tag : to_z w64 (of_z w64 c.before.before.word-t.result) ≡ get_or words i (pos 0)
-  tag = let f : SFits w64 c.before.before.word-t.result = search rules in to_z-of_z w64 c.before.before.word-t.result f ∙ c.before.before.word-t.ensures
+  tag : to_z w64 (of_z w64 c.word-t.result) ≡ get_or words i (pos 0)
+  tag = let f : SFits w64 c.word-t.result = search rules in to_z-of_z w64 c.word-t.result f ∙ c.word-t.ensures
 
   datum : to_z w64 (of_z w64 c.word-d.result) ≡ get_or words (i + 1) (pos 0)
   datum = let f : SFits w64 c.word-d.result = search rules in to_z-of_z w64 c.word-d.result f ∙ c.word-d.ensures
 
-  words_are : children_if any_label (to_z w64 (of_z w64 c.before.before.word-t.result)) (to_z w64 (of_z w64 c.word-d.result)) ≡ some here.count
+  words_are : children_if any_label (to_z w64 (of_z w64 c.word-t.result)) (to_z w64 (of_z w64 c.word-d.result)) ≡ some here.count
   words_are = ap₂ (children_if any_label) tag datum ∙ here.children
 
-  said : here.count ≡ children_of (to_z w64 (of_z w64 c.before.before.word-t.result)) (to_z w64 (of_z w64 c.word-d.result))
-  said = count_is (children_node any_label (to_z w64 (of_z w64 c.before.before.word-t.result)) (to_z w64 (of_z w64 c.word-d.result)) here.count words_are)
+  said : here.count ≡ children_of (to_z w64 (of_z w64 c.word-t.result)) (to_z w64 (of_z w64 c.word-d.result))
+  said = count_is (children_node any_label (to_z w64 (of_z w64 c.word-t.result)) (to_z w64 (of_z w64 c.word-d.result)) here.count words_are)
 
 -- the count that was answered is the node's
 counted : (c : tie.After-children invariant-loop decreases-loop) → (turn c.before.before.before.before).count ≡ c.children.result
@@ -72,14 +72,14 @@ word-requires c κs = let r = (turn c).room in omega arith
 mixed-expression-end-requires : tie.Need-mixed_expression_end-requires invariant-loop decreases-loop
 mixed-expression-end-requires c κs =
     let u = c.before.before.before in
-    let a = u.before.args in
-    let g = u.before.requires in
+    let a = u.args in
+    let g = u.requires in
     record { end = a.at + length (encode (single g.term)); ends = sym u.loop-left.invariant ∙ term_ends a.s.now a.at g.term g.shape g.stands }
 
 returns : tie.Need-returns-then-t-eq-DICTIONARY invariant-loop decreases-loop
 returns c =
     let u = c.before.before.before.before in
-    let a = u.before.args in
+    let a = u.args in
     record { ends = λ t x h. let e = sym c.mixed_expression_end.ensures.is ∙ (sym u.loop-left.invariant ∙ term_ends a.s.now a.at t x h) in cc }
 
 add-word : tie.Need-overflow_add-i invariant-loop decreases-loop
@@ -112,14 +112,16 @@ loop-again c =
 
 returns-2 : tie.Need-returns invariant-loop decreases-loop
 returns-2 c =
-    let s = c.before.before.args.s.now in
-    let at = c.before.before.args.at in
-    let l = c.before.loop-left in
+    let s = c.args.s.now in
+    let at = c.args.at in
+    let l = c.loop-left in
     let z : l.left ≡ 0 = let h = c.loop-left-test.false in omega arith in
     record { ends = λ t x h. let e = sym (place_done any_label s l.i l.left z) ∙ (sym l.invariant ∙ term_ends s at t x h) in cc }
 
 pub expression_end_spec : {M : Type 1} → statement M
-expression_end_spec = tie.close (tie.spec
+expression_end_spec =
+    tie.close
+    (tie.spec
     invariant-loop
     decreases-loop
     loop-holds

@@ -33,12 +33,12 @@ ends_at : (s : List ℤ) (at : ℕ) (t : Term) → T (shapely (single t)) → T 
 ends_at s at t x g h = ground_terms_are s at 1 ∙ stands_ends ground_label s at t x g h
 
 -- the turn at the node that stands at i, by the term that is required
-turn : (c : tie.In-loop-rest invariant-loop decreases-loop) → Turn ground_label c.before.before.args.s.now c.before.loop-rest.i c.before.loop-rest.rest (c.before.before.args.at + length (encode (single c.before.before.requires.term)))
+turn : (c : tie.In-loop-rest invariant-loop decreases-loop) → Turn ground_label c.args.s.now c.loop-rest.i c.loop-rest.rest (c.args.at + length (encode (single c.requires.term)))
 turn c =
-    let s = c.before.before.args.s.now in
-    let at = c.before.before.args.at in
-    let g = c.before.before.requires in
-    let l = c.before.loop-rest in
+    let s = c.args.s.now in
+    let at = c.args.at in
+    let g = c.requires in
+    let l = c.loop-rest in
     place_turn ground_label s l.i l.rest (at + length (encode (single g.term))) c.loop-rest-test.true
     (sym l.invariant ∙ ends_at s at g.term g.shape g.grounded g.stands)
 
@@ -51,27 +51,27 @@ word-requires c κs = let r = (turn c).room in omega arith
 -- a dictionary: the terms left to read end where the one at the start does
 mixed-ground-end-requires : tie.Need-mixed_ground_end-requires invariant-loop decreases-loop
 mixed-ground-end-requires c κs =
-    let a = c.before.before.before.before.args in
-    let g = c.before.before.before.before.requires in
-    record { end = a.at + length (encode (single g.term)); ends = sym c.before.before.before.loop-rest.invariant ∙ ends_at a.s.now a.at g.term g.shape g.grounded g.stands }
+    let a = c.args in
+    let g = c.requires in
+    record { end = a.at + length (encode (single g.term)); ends = sym c.loop-rest.invariant ∙ ends_at a.s.now a.at g.term g.shape g.grounded g.stands }
 
 returns : tie.Need-returns-then-t-eq-DICTIONARY invariant-loop decreases-loop
 returns c =
-    let a = c.before.before.before.before.before.args in
-    record { ends = λ t x g h. let e = sym c.mixed_ground_end.ensures.is ∙ (sym c.before.before.before.before.loop-rest.invariant ∙ ends_at a.s.now a.at t x g h) in cc }
+    let a = c.args in
+    record { ends = λ t x g h. let e = sym c.mixed_ground_end.ensures.is ∙ (sym c.loop-rest.invariant ∙ ends_at a.s.now a.at t x g h) in cc }
 
 -- any other node: the count that the code read is the node's
 counted : (c : tie.After-tag_children invariant-loop decreases-loop) → (turn c.before.before.before).count ≡ c.tag_children.result
 counted c =
-    let s = c.before.before.before.before.before.args.s.now in
-    let i = c.before.before.before.before.loop-rest.i in
-    let w = c.before.before.word in
+    let s = c.args.s.now in
+    let i = c.loop-rest.i in
+    let w = c.word-t in
     let t = turn c.before.before.before in
     let x = get_or s i (pos 0) in
     let y = get_or s (i + 1) (pos 0) in
-    let f : SFits w64 c.before.before.word-t.result = search rules in
+    let f : SFits w64 c.word-t.result = search rules in
     ground_count x y t.count (children_node ground_label x y t.count t.children) ∙
-    (sym (plain_by_tag x y (λ e. c.before.if-t-eq-DICTIONARY.false (ap (of_z w64) (w.ensures ∙ e)))) ∙ sym (c.tag_children.ensures ∙ ap tag_children (to_z-of_z w64 w.result f ∙ w.ensures)))
+    (sym (plain_by_tag x y (λ e. c.if-t-eq-DICTIONARY.false (ap (of_z w64) (w.ensures ∙ e)))) ∙ sym (c.tag_children.ensures ∙ ap tag_children (to_z-of_z w64 w.result f ∙ w.ensures)))
 
 sub-rest : tie.Need-overflow_sub-rest invariant-loop decreases-loop
 sub-rest c = search rules
@@ -90,22 +90,24 @@ loop-less c = let r = (turn c.before.before.before).room in omega arith
 
 loop-again : tie.Need-loop-rest-preserved invariant-loop decreases-loop
 loop-again c =
-    let s = c.before.before.before.before.before.args.s.now in
-    let at = c.before.before.before.before.before.args.at in
-    let g = c.before.before.before.before.before.requires in
+    let s = c.args.s.now in
+    let at = c.args.at in
+    let g = c.requires in
     ends_at s at g.term g.shape g.grounded g.stands ∙
     sym (rw (counted c) at (turn c.before.before.before).rest)
 
 returns-2 : tie.Need-returns invariant-loop decreases-loop
 returns-2 c =
-    let s = c.before.before.args.s.now in
-    let at = c.before.before.args.at in
-    let l = c.before.loop-rest in
+    let s = c.args.s.now in
+    let at = c.args.at in
+    let l = c.loop-rest in
     let z : l.rest ≡ 0 = let h = c.loop-rest-test.false in omega arith in
     record { ends = λ t x g h. let e = sym (place_done ground_label s l.i l.rest z) ∙ (sym l.invariant ∙ ends_at s at t x g h) in cc }
 
 pub ground_end_spec : {M : Type 1} → statement M
-ground_end_spec = tie.close (tie.spec
+ground_end_spec =
+    tie.close
+    (tie.spec
     invariant-loop
     decreases-loop
     loop-holds

@@ -23,34 +23,34 @@ abbrev decreases-loop : tie.decreases-loop-k
 decreases-loop s at count i₀ k₀ i k = length s - i
 
 -- the turn at the node that stands at i, by the end that is required
-turn : (c : tie.In-loop-k invariant-loop decreases-loop) → Turn any_label c.before.before.args.s.now c.before.loop-k.i c.before.loop-k.k c.before.before.requires.end
+turn : (c : tie.In-loop-k invariant-loop decreases-loop) → Turn any_label c.args.s.now c.loop-k.i c.loop-k.k c.requires.end
 turn c =
-    let l = c.before.loop-k in
-    let g = c.before.before.requires in
-    place_turn any_label c.before.before.args.s.now l.i l.k g.end c.loop-k-test.true (sym l.invariant ∙ g.ends)
+    let l = c.loop-k in
+    let g = c.requires in
+    place_turn any_label c.args.s.now l.i l.k g.end c.loop-k-test.true (sym l.invariant ∙ g.ends)
 
 -- the two words that the code read are the node's
 module _ (c : tie.After-word-d invariant-loop decreases-loop) where
   abbrev words : List ℤ
-  words = c.before.before.before.before.args.s.now
+  words = c.args.s.now
 
   abbrev i : ℕ
-  i = c.before.before.before.loop-k.i
+  i = c.loop-k.i
 
-  abbrev here : Turn any_label words i c.before.before.before.loop-k.k c.before.before.before.before.requires.end
+  abbrev here : Turn any_label words i c.loop-k.k c.requires.end
   here = turn c.before.before
 
-  tag : to_z w64 (of_z w64 c.before.word-t.result) ≡ get_or words i (pos 0)
-  tag = let f : SFits w64 c.before.word-t.result = search rules in to_z-of_z w64 c.before.word-t.result f ∙ c.before.word-t.ensures
+  tag : to_z w64 (of_z w64 c.word-t.result) ≡ get_or words i (pos 0)
+  tag = let f : SFits w64 c.word-t.result = search rules in to_z-of_z w64 c.word-t.result f ∙ c.word-t.ensures
 
   datum : to_z w64 (of_z w64 c.word-d.result) ≡ get_or words (i + 1) (pos 0)
   datum = let f : SFits w64 c.word-d.result = search rules in to_z-of_z w64 c.word-d.result f ∙ c.word-d.ensures
 
-  words_are : children_if any_label (to_z w64 (of_z w64 c.before.word-t.result)) (to_z w64 (of_z w64 c.word-d.result)) ≡ some here.count
+  words_are : children_if any_label (to_z w64 (of_z w64 c.word-t.result)) (to_z w64 (of_z w64 c.word-d.result)) ≡ some here.count
   words_are = ap₂ (children_if any_label) tag datum ∙ here.children
 
-  said : here.count ≡ children_of (to_z w64 (of_z w64 c.before.word-t.result)) (to_z w64 (of_z w64 c.word-d.result))
-  said = count_is (children_node any_label (to_z w64 (of_z w64 c.before.word-t.result)) (to_z w64 (of_z w64 c.word-d.result)) here.count words_are)
+  said : here.count ≡ children_of (to_z w64 (of_z w64 c.word-t.result)) (to_z w64 (of_z w64 c.word-d.result))
+  said = count_is (children_node any_label (to_z w64 (of_z w64 c.word-t.result)) (to_z w64 (of_z w64 c.word-d.result)) here.count words_are)
 
 -- the count that was answered is the node's
 counted : (c : tie.After-children invariant-loop decreases-loop) → (turn c.before.before.before).count ≡ c.children.result
@@ -84,17 +84,19 @@ loop-less : tie.Need-loop-k-smaller invariant-loop decreases-loop
 loop-less c = let r = (turn c.before.before.before).room in omega arith
 
 loop-again : tie.Need-loop-k-preserved invariant-loop decreases-loop
-loop-again c = c.before.before.before.before.before.requires.ends ∙ sym (rw (counted c) at (turn c.before.before.before).rest)
+loop-again c = c.requires.ends ∙ sym (rw (counted c) at (turn c.before.before.before).rest)
 
 returns : tie.Need-returns invariant-loop decreases-loop
 returns c =
-    let s = c.before.before.args.s.now in
-    let l = c.before.loop-k in
+    let s = c.args.s.now in
+    let l = c.loop-k in
     let z : l.k ≡ 0 = let h = c.loop-k-test.false in omega arith in
     record { is = l.invariant ∙ place_done any_label s l.i l.k z }
 
 pub mixed_expression_end_spec : {M : Type 1} → statement M
-mixed_expression_end_spec = tie.close (tie.spec
+mixed_expression_end_spec =
+    tie.close
+    (tie.spec
     invariant-loop
     decreases-loop
     loop-holds

@@ -21,7 +21,7 @@ part-result-end : tie.Need-slice_bounds-result-end
 part-result-end c = search rules
 
 returns : tie.Need-returns-then-words-place
-returns c = let a = c.before.before.args in subterm_contract a.words.now a.place _ (sym (subterm_past a.words.now a.place (omega arith)))
+returns c = let a = c.args in subterm_contract a.words.now a.place _ (sym (subterm_past a.words.now a.place (omega arith)))
 
 check-configuration-requires : tie.Need-check_configuration-requires
 check-configuration-requires c κs = search rules
@@ -43,31 +43,31 @@ part-result-end-2 c = search rules
 
 returns-2 : tie.Need-returns-in_default
 returns-2 c =
-    let u = c.before.before.before in
-    let a = u.before.before.args in
-    refused_part a.words.now a.place u.check_configuration.result u.check_configuration.ensures _ c.before.enum_told-in_default-1.given.1
+    let u = c.before.before in
+    let a = u.args in
+    refused_part a.words.now a.place u.check_configuration.result u.check_configuration.ensures _ c.in_default.is
 
 mul-s : tie.Need-overflow_mul-s
 mul-s c = search rules
 
 -- the subterm that stands there
-here : (c : tie.In-Good) → Found c.before.before.before.before.args.words.now c.before.before.before.before.args.place c.before.before.check_configuration.result c.before.before.check_configuration.ensures
+here : (c : tie.In-Good) → Found c.args.words.now c.args.place c.check_configuration.result c.check_configuration.ensures
 here c =
-    let u = c.before.before in
-    let a = u.before.before.args in
-    found a.words.now a.place u.check_configuration.result u.check_configuration.ensures c.enum_told-1.given.1 u.before.if-words-place.false
+    let u = c.before in
+    let a = u.args in
+    found a.words.now a.place u.check_configuration.result u.check_configuration.ensures c.in-Good.is u.if-words-place.false
 
 ground-end-requires : tie.Need-ground_end-e-requires
 ground-end-requires c κs =
-    let u = c.before.before in
-    let a = u.before.before.args in
+    let u = c.before in
+    let a = u.args in
     found_at a.words.now a.place u.check_configuration.result u.check_configuration.ensures (here c)
 
 -- where it ends
-end : (c : tie.After-ground_end-e) → c.ground_end-e.result ≡ 2 * c.before.before.before.before.before.args.place + length (encode (single (here c.before).here.term))
+end : (c : tie.After-ground_end-e) → c.ground_end-e.result ≡ 2 * c.args.place + length (encode (single (here c.before).here.term))
 end c =
-    let u = c.before.before.before in
-    let a = u.before.before.args in
+    let u = c.before.before in
+    let a = u.args in
     found_end a.words.now a.place u.check_configuration.result u.check_configuration.ensures (here c.before) c.ground_end-e.result c.ground_end-e.ensures
 
 mul-result : tie.Need-offset_bounds-words-s
@@ -84,12 +84,14 @@ part-result-end-3 c = let e = end c in let w = (here c.before).here.stands.withi
 
 returns-3 : tie.Need-returns
 returns-3 c =
-    let u = c.before.before.before.before in
-    let a = u.before.before.args in
-    found_part a.words.now a.place u.check_configuration.result u.check_configuration.ensures (here c.before.before) c.before.ground_end-e.result c.before.ground_end-e.ensures
+    let u = c.before.before.before in
+    let a = u.args in
+    found_part a.words.now a.place u.check_configuration.result u.check_configuration.ensures (here c.before.before) c.ground_end-e.result c.ground_end-e.ensures
 
 pub subterm_spec : {M : Type 1} → statement M
-subterm_spec = tie.close (tie.spec
+subterm_spec =
+    tie.close
+    (tie.spec
     sub-result
     part-result-start
     part-result-end

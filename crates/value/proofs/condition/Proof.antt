@@ -67,14 +67,14 @@ from_second c = from_first c.before.before.before
 call_in : (c : tie.Then-word-eq-CALL) → let s = from_call c in CallIn s.args.table.now s.args.configuration.now s.args.starts.now s.args.ends.now s.args.at
 call_in c =
     let p = (from_call c).requires in
-    let f : mag c.before.word.result < 2 ^ 63 = search rules in
+    let f : mag c.word.result < 2 ^ 63 = search rules in
     record {
       expression = record { valuation = p.valuation; expression = p.condition.first; term = p.stands.first; has = p.stands.first_has };
-      tag = sym c.before.word.ensures ∙ lit_pos c.before.word.result 4 f (lit< tt) c.if-word-eq-CALL.true;
+      tag = sym c.word.ensures ∙ lit_pos c.word.result 4 f (lit< tt) c.if-word-eq-CALL.true;
     }
 
 is_short : (c : tie.Then-is_short_call) → Short (from_short c).args.table.now (from_short c).args.at
-is_short c = c.before.is_short_call.ensures c.if-is_short_call.true
+is_short c = c.is_short_call.ensures c.if-is_short_call.true
 
 abbrev behind_at : tie.Start → ℕ
 behind_at s = s.args.at + 6
@@ -94,8 +94,8 @@ room_behind c =
 
 low_behind : (c : tie.Then-word-lt-VARIABLE) → lt_z (get_or (from_literal c).args.table.now (behind_at (from_literal c)) (pos 0)) (pos 3) ≡ true
 low_behind c =
-    let f : SFits w64 c.before.word-then-is_short_call.result = search rules in
-    subst (λ z. lt_z z (pos 3) ≡ true) (to_z-of_z f ∙ c.before.word-then-is_short_call.ensures) c.if-word-lt-VARIABLE.true
+    let f : SFits w64 c.word-then-is_short_call.result = search rules in
+    subst (λ z. lt_z z (pos 3) ≡ true) (to_z-of_z f ∙ c.word-then-is_short_call.ensures) c.if-word-lt-VARIABLE.true
 
 literal_behind : (c : tie.Then-word-lt-VARIABLE) (ρ : Valuation) (d : SideCondition) (w : Stood (from_literal c) ρ d) → Means (from_literal c) (behind_at (from_literal c)) d.second w.second (node_at (behind_at (from_literal c)))
 literal_behind c ρ d w = literal_meant _ _ _ _ _ ρ d.second w.second (behind_call c.before.before ρ d w) (low_behind c)
@@ -104,7 +104,7 @@ called : (c : tie.After-given-v) (ρ : Valuation) (d : SideCondition) (w : Stood
 called c ρ d w =
     let s = from_given c in
     subst⁻¹ (λ (v : Value). Means s s.args.at d.first w.first (record { value = v; next = behind_at s })) c.given-v.ensures
-    ((c.before.short_call-r.ensures.over s.args.ends.now).meant ρ d.first w.first w.first_has)
+    ((c.short_call-r.ensures.over s.args.ends.now).meant ρ d.first w.first w.first_has)
 
 -- ---- any other first side
 first : (c : tie.After-evaluate-first) (ρ : Valuation) (d : SideCondition) (w : Stood (from_first c) ρ d) → Means (from_first c) (from_first c).args.at d.first w.first c.evaluate-first.result
@@ -120,16 +120,16 @@ room c =
     (head_words _ _ e.label e.children nil (behind c p.valuation p.condition p.stands).placed.stands).room
 
 -- a literal without children behind it
-low : (c : tie.Then-word-lt-VARIABLE-2) → lt_z (get_or (from_node c).args.table.now c.before.before.evaluate-first.result.next (pos 0)) (pos 3) ≡ true
+low : (c : tie.Then-word-lt-VARIABLE-2) → lt_z (get_or (from_node c).args.table.now c.evaluate-first.result.next (pos 0)) (pos 3) ≡ true
 low c =
-    let f : SFits w64 c.before.word-2.result = search rules in
-    subst (λ z. lt_z z (pos 3) ≡ true) (to_z-of_z f ∙ c.before.word-2.ensures) c.if-word-lt-VARIABLE-2.true
+    let f : SFits w64 c.word-2.result = search rules in
+    subst (λ z. lt_z z (pos 3) ≡ true) (to_z-of_z f ∙ c.word-2.ensures) c.if-word-lt-VARIABLE-2.true
 
-literal : (c : tie.Then-word-lt-VARIABLE-2) (ρ : Valuation) (d : SideCondition) (w : Stood (from_node c) ρ d) → Means (from_node c) c.before.before.evaluate-first.result.next d.second w.second (node_at c.before.before.evaluate-first.result.next)
+literal : (c : tie.Then-word-lt-VARIABLE-2) (ρ : Valuation) (d : SideCondition) (w : Stood (from_node c) ρ d) → Means (from_node c) c.evaluate-first.result.next d.second w.second (node_at c.evaluate-first.result.next)
 literal c ρ d w = literal_meant _ _ _ _ _ ρ d.second w.second (behind c.before.before ρ d w) (low c)
 
 -- any other second side
-second : (c : tie.After-evaluate-second) (ρ : Valuation) (d : SideCondition) (w : Stood (from_second c) ρ d) → Means (from_second c) c.before.before.before.evaluate-first.result.next d.second w.second c.evaluate-second.result
+second : (c : tie.After-evaluate-second) (ρ : Valuation) (d : SideCondition) (w : Stood (from_second c) ρ d) → Means (from_second c) c.evaluate-first.result.next d.second w.second c.evaluate-second.result
 second c ρ d w = c.evaluate-second.ensures.meant ρ d.second w.second (behind c.before.before.before ρ d w)
 
 word-requires : tie.Need-word-requires
@@ -173,7 +173,7 @@ returns c =
 
 evaluate-requires : tie.Need-evaluate-first-requires
 evaluate-requires c κs =
-    let p = c.before.before.requires in
+    let p = c.requires in
     record { valuation = p.valuation; expression = p.condition.first; term = p.stands.first; has = p.stands.first_has }
 
 word-requires-3 : tie.Need-word-requires-2
@@ -210,11 +210,13 @@ returns-3 c =
     let e = c.before.before.before.before in
     record {
       meant = λ ρ d w.
-          condition_meant _ _ _ _ _ ρ d w e.evaluate-first.result c.before.evaluate-second.result (first e ρ d w) (second c.before ρ d w) c.same-holds.result c.same-holds.ensures;
+          condition_meant _ _ _ _ _ ρ d w e.evaluate-first.result c.evaluate-second.result (first e ρ d w) (second c.before ρ d w) c.same-holds.result c.same-holds.ensures;
     }
 
 pub condition_spec : {M : Type 1} → statement M
-condition_spec = tie.close (tie.spec
+condition_spec =
+    tie.close
+    (tie.spec
     word-requires
     is-short-call-requires
     add-behind

@@ -20,20 +20,22 @@ word-requires c κs =
 
 expression-requires : tie.Need-expression-requires
 expression-requires c κs =
-    let f : mag c.before.word.result < 2 ^ 63 = search rules in
-    record { expression = c.before.before.requires; tag = sym c.before.word.ensures ∙ lit_pos c.before.word.result 4 f (lit< tt) c.if-word-eq-CALL.true }
+    let f : mag c.word.result < 2 ^ 63 = search rules in
+    record { expression = c.requires; tag = sym c.word.ensures ∙ lit_pos c.word.result 4 f (lit< tt) c.if-word-eq-CALL.true }
 
 returns : tie.Need-returns-then-word-eq-CALL
 returns c = c.expression.ensures
 
 leaf-requires : tie.Need-leaf-requires
-leaf-requires c κs = record { config = _; expression = c.before.before.requires; tag = λ e. c.if-word-eq-CALL.false (ap (of_z w64) (c.before.word.ensures ∙ e)) }
+leaf-requires c κs = record { config = _; expression = c.requires; tag = λ e. c.if-word-eq-CALL.false (ap (of_z w64) (c.word.ensures ∙ e)) }
 
 returns-2 : tie.Need-returns
 returns-2 c = c.leaf.ensures.over _
 
 pub evaluate_spec : {M : Type 1} → statement M
-evaluate_spec = tie.close (tie.spec
+evaluate_spec =
+    tie.close
+    (tie.spec
     word-requires
     expression-requires
     returns

@@ -8,13 +8,13 @@ use Rattle.value.proofs.part.Statement.{statement}
 use Rattle.value.proofs.part.Tie as tie
 
 -- the part lies within its slice
-in_table : (c : tie.In-Table) → (c.before.v-1.given.0.0 ≤ c.before.v-1.given.0.1.0) × (c.before.v-1.given.0.1.0 ≤ length c.before.before.before.args.table.now)
+in_table : (c : tie.In-Table) → (c.in-Table.start ≤ c.in-Table.end) × (c.in-Table.end ≤ length c.args.table.now)
 unfolding Within
-in_table c = subst (Within c.before.before.before.args.table.now c.before.before.before.args.configuration.now) c.before.v-1.given.1 c.before.before.before.requires
+in_table c = subst (Within c.args.table.now c.args.configuration.now) c.in-Table.is c.requires
 
-in_configuration : (c : tie.In-Configuration) → (c.before.v-in-Configuration-1.given.0.0 ≤ c.before.v-in-Configuration-1.given.0.1.0) × (c.before.v-in-Configuration-1.given.0.1.0 ≤ length c.before.before.before.args.configuration.now)
+in_configuration : (c : tie.In-Configuration) → (c.in-Configuration.start ≤ c.in-Configuration.end) × (c.in-Configuration.end ≤ length c.args.configuration.now)
 unfolding Within
-in_configuration c = subst (Within c.before.before.before.args.table.now c.before.before.before.args.configuration.now) c.before.v-in-Configuration-1.given.1 c.before.before.before.requires
+in_configuration c = subst (Within c.args.table.now c.args.configuration.now) c.in-Configuration.is c.requires
 
 enum-known-v : tie.Need-enum_known-v
 enum-known-v c = search rules
@@ -60,18 +60,20 @@ part-result-end-3 c = search rules
 
 returns : tie.Need-returns-in-Table
 unfolding part_words
-returns c = rw c.before.before.v-1.given.1
+returns c = rw c.in-Table.is
 
 returns-2 : tie.Need-returns-in-Configuration
 unfolding part_words
-returns-2 c = rw c.before.before.v-in-Configuration-1.given.1
+returns-2 c = rw c.in-Configuration.is
 
 returns-3 : tie.Need-returns-in-Computed
 unfolding part_words
-returns-3 c = rw c.before.enum_told-1.given.1
+returns-3 c = rw c.in-Computed.is
 
 pub part_spec : {M : Type 1} → statement M
-part_spec = tie.close (tie.spec
+part_spec =
+    tie.close
+    (tie.spec
     enum-known-v
     mul-result
     sub-result

@@ -17,12 +17,12 @@ use Rattle.value.proofs.put.Statement.{statement}
 use Rattle.value.proofs.put.Tie as tie
 
 -- there is room for two words; the part has the value's words
-room : (c : tie.In-Computed) → c.before.before.before.args.at + 2 ≤ length c.before.before.before.args.out.now
+room : (c : tie.In-Computed) → c.args.at + 2 ≤ length c.args.out.now
 unfolding size_of
-room c = subst (λ (v : Value). c.before.before.before.args.at + size_of v ≤ length c.before.before.before.args.out.now) c.before.v-1.given.1 c.before.before.before.requires.1
+room c = subst (λ (v : Value). c.args.at + size_of v ≤ length c.args.out.now) c.in-Computed.is c.requires.1
 
-the_words : (c : tie.After-part-words) → c.part-words.result.now ≡ value_words c.before.before.args.table.now c.before.before.args.configuration.now c.before.before.args.v
-the_words c = c.part-words.ensures ∙ part_is _ _ c.before.before.args.v c.before.match.keys2
+the_words : (c : tie.After-part-words) → c.part-words.result.now ≡ value_words c.args.table.now c.args.configuration.now c.args.v
+the_words c = c.part-words.ensures ∙ part_is _ _ c.args.v c.in_default.keys2
 
 enum-known-v : tie.Need-enum_known-v
 enum-known-v c = search rules
@@ -46,7 +46,7 @@ add-result : tie.Need-overflow_add-result
 add-result c = let h = room c in omega arith
 
 part-requires : tie.Need-part-words-requires
-part-requires c κs = c.before.requires.0
+part-requires c κs = c.requires.0
 
 copy-requires : tie.Need-copy-requires
 copy-requires c κs =
@@ -64,9 +64,9 @@ same_length c = search rules
 returns : tie.Need-returns-in-Computed
 unfolding value_words
 returns c =
-    let f : SFits w64 c.before.v-1.given.0.0 = search rules in
-    let g : SFits w64 c.before.v-1.given.0.1.0 = search rules in
-    rw (c.before.v-1.given.1, to_z-of_z f, to_z-of_z g) (record { leaves = written_two _ _ _ _ (room c); next = refl })
+    let f : SFits w64 c.in-Computed.tag = search rules in
+    let g : SFits w64 c.in-Computed.datum = search rules in
+    rw (c.in-Computed.is, to_z-of_z f, to_z-of_z g) (record { leaves = written_two _ _ _ _ (room c); next = refl })
 
 same-length-2 : tie.Need-shape_of-out-in_default
 same-length-2 c = search rules
@@ -76,12 +76,14 @@ returns-2 c =
     let s = c.before.before.before.before.before in
     let w = the_words c.before.before.before in
     record {
-      leaves = c.before.copy.ensures ∙ pasted _ _ _ _ refl ∙ ap (written s.args.out.now s.args.at) w;
+      leaves = c.copy.ensures ∙ pasted _ _ _ _ refl ∙ ap (written s.args.out.now s.args.at) w;
       next = ap (λ (xs : List ℤ). s.args.at + length xs) w;
     }
 
 pub put_spec : {M : Type 1} → statement M
-put_spec = tie.close (tie.spec
+put_spec =
+    tie.close
+    (tie.spec
     enum-known-v
     mul-tag
     slice-set-from-tag

@@ -24,10 +24,12 @@ same_length : tie.Need-shape_of-output
 same_length c = search rules
 
 returns : tie.Need-returns
-returns c = refused_wrote c.before.before.before.before.before.before.before.before.before.before.before.before.before.before.before.args.output.now _ _ _ c.before.before.before.before.before.before.before.before.before.before.before.before.before.before.before.args.refusal _ _ _ _ (omega (arith, c.before.before.before.before.before.before.before.before.before.before.before.before.before.before.before.requires, c.before.before.before.before.before.before.put_decimal-end.ensures.1, c.before.before.before.before.before.before.before.before.before.before.before.put_text-at.ensures.end)) c.before.before.before.before.before.before.before.number.ensures c.before.before.before.before.before.before.before.before.before.before.before.put_text-at.ensures c.before.before.before.before.before.before.put_decimal-end.ensures.0 c.before.before.put_byte.ensures (omega (arith, c.before.before.before.before.before.before.before.before.before.before.before.before.before.before.before.requires, c.before.before.before.before.before.before.before.before.before.before.before.put_text-at.ensures.end))
+returns c = refused_wrote c.args.output.now _ _ _ c.args.refusal _ _ _ _ (omega (arith, c.requires, c.put_decimal-end.ensures.1, c.put_text-at.ensures.end)) c.number.ensures c.put_text-at.ensures c.put_decimal-end.ensures.0 c.put_byte.ensures (omega (arith, c.requires, c.put_text-at.ensures.end))
 
 pub put_refusal_spec : {M : Type 1} → statement M
-put_refusal_spec = tie.close (tie.spec
+put_refusal_spec =
+    tie.close
+    (tie.spec
     put-text-requires
     number-requires
     put-decimal-requires

@@ -41,7 +41,9 @@ returns c =
     reproduced_wrote s.args.output.now _ _ _ _ _ _ s.args.choices.now s.args.words.now _ _ _ _ _ _ text.put_text-at.ensures count.put_decimal-counted.ensures.0 choices.put_more_numbers-chosen.ensures.0 comma.put_byte-second.ensures words.put_words-end.ensures.0 last.put_byte.ensures (omega (arith, s.requires, text.put_text-at.ensures.end, count.put_decimal-counted.ensures.1, choices.put_more_numbers-chosen.ensures.1, comma.put_byte-second.ensures.end, words.put_words-end.ensures.1))
 
 pub put_reproduced_spec : {M : Type 1} → statement M
-put_reproduced_spec = tie.close (tie.spec
+put_reproduced_spec =
+    tie.close
+    (tie.spec
     put-text-requires
     put-decimal-requires
     put-more-numbers-requires

@@ -12,10 +12,12 @@ as-action-requires : tie.Need-as_action-requires
 as-action-requires c κs = search rules
 
 returns : tie.Need-returns
-returns c = c.as_action.ensures ∙ action_at_is _ _ _ c.before.next_number.ensures.answer
+returns c = c.as_action.ensures ∙ action_at_is _ _ _ c.next_number.ensures.answer
 
 pub action_at_spec : {M : Type 1} → statement M
-action_at_spec = tie.close (tie.spec
+action_at_spec =
+    tie.close
+    (tie.spec
     next-number-requires
     as-action-requires
     returns)

@@ -12,7 +12,7 @@ enum-known-number : tie.Need-enum_known-number
 enum-known-number c = search rules
 
 returns : tie.Need-returns-then-value-gt65535
-returns c = action_large c.before.before.number-1.given.0.0 _ (omega (arith, c.if-value-gt65535.true)) ∙ sym (ap (λ (n : Number). action_answer (end_of n) (item_of action_of n)) c.before.before.number-1.given.1)
+returns c = action_large c.in-Natural.value _ (omega (arith, c.if-value-gt65535.true)) ∙ sym (ap (λ (n : Number). action_answer (end_of n) (item_of action_of n)) c.in-Natural.is)
 
 cast-t6 : tie.Need-overflow_cast-result
 cast-t6 c = search rules
@@ -24,7 +24,7 @@ enum-told-2 : tie.Need-enum_told-in-Bad
 enum-told-2 c = search rules
 
 returns-2 : tie.Need-returns-else-value-gt65535
-returns-2 c = action_natural c.before.before.number-1.given.0.0 _ (omega (arith, c.if-value-gt65535.false)) ∙ sym (ap (λ (n : Number). action_answer (end_of n) (item_of action_of n)) c.before.before.number-1.given.1)
+returns-2 c = action_natural c.in-Natural.value _ (omega (arith, c.if-value-gt65535.false)) ∙ sym (ap (λ (n : Number). action_answer (end_of n) (item_of action_of n)) c.in-Natural.is)
 
 returns-3 : tie.Need-returns-in-Negative
 returns-3 c = search rules
@@ -33,7 +33,9 @@ returns-4 : tie.Need-returns-in-Bad
 returns-4 c = search rules
 
 pub as_action_spec : {M : Type 1} → statement M
-as_action_spec = tie.close (tie.spec
+as_action_spec =
+    tie.close
+    (tie.spec
     enum-known-number
     returns
     cast-t6

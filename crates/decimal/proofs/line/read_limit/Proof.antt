@@ -11,7 +11,7 @@ enum-known-value : tie.Need-enum_known-value
 enum-known-value c = search rules
 
 returns : tie.Need-returns-then-end-line
-returns c = limit_whole c.before.before.before.before.before.before.args.line.now _ c.before.before.before.before.next_number.ensures.answer _ _ c.before.before.value-1.given.1 c.if-end-line.true
+returns c = limit_whole c.args.line.now _ c.next_number.ensures.answer _ _ c.in-Natural.is c.if-end-line.true
 
 enum_told : tie.Need-enum_told-1
 enum_told c = search rules
@@ -20,16 +20,18 @@ enum-told-2 : tie.Need-enum_told-in-Bad
 enum-told-2 c = search rules
 
 returns-2 : tie.Need-returns-else-end-line
-returns-2 c = limit_more c.before.before.before.before.before.before.args.line.now _ c.before.before.before.before.next_number.ensures.answer _ _ c.before.before.value-1.given.1 c.if-end-line.false
+returns-2 c = limit_more c.args.line.now _ c.next_number.ensures.answer _ _ c.in-Natural.is c.if-end-line.false
 
 returns-3 : tie.Need-returns-in-Negative
-returns-3 c = limit_negative c.before.before.before.before.args.line.now _ c.before.before.next_number.ensures.answer _ _ c.enum_told-1.given.1
+returns-3 c = limit_negative c.args.line.now _ c.next_number.ensures.answer _ _ c.in-Negative.is
 
 returns-4 : tie.Need-returns-in-Bad
-returns-4 c = limit_bad c.before.before.before.before.args.line.now _ c.before.before.next_number.ensures.answer c.enum_told-in-Bad-1.given.1
+returns-4 c = limit_bad c.args.line.now _ c.next_number.ensures.answer c.in-Bad.is
 
 pub read_limit_spec : {M : Type 1} → statement M
-read_limit_spec = tie.close (tie.spec
+read_limit_spec =
+    tie.close
+    (tie.spec
     next-number-requires
     enum-known-value
     returns

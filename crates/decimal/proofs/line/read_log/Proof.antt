@@ -5,7 +5,7 @@ use Rattle.decimal.proofs.line.read_log.Statement.{statement}
 use Rattle.decimal.proofs.line.read_log.Tie as tie
 
 returns : tie.Need-returns-then-line-eq0
-returns c = log_empty c.before.before.before.args.line.now c.before.before.before.args.out.now c.if-line-eq0.true
+returns c = log_empty c.args.line.now c.args.out.now c.if-line-eq0.true
 
 read-actions-requires : tie.Need-read_actions-requires
 read-actions-requires c κs = search rules
@@ -14,10 +14,12 @@ same_length : tie.Need-shape_of-out
 same_length c = search rules
 
 returns-2 : tie.Need-returns
-returns-2 c = log_other c.before.before.before.before.before.before.before.args.line.now c.before.before.before.before.before.before.before.args.out.now _ _ c.before.before.before.before.if-line-eq0.false c.before.before.read_actions.ensures
+returns-2 c = log_other c.args.line.now c.args.out.now _ _ c.if-line-eq0.false c.read_actions.ensures
 
 pub read_log_spec : {M : Type 1} → statement M
-read_log_spec = tie.close (tie.spec
+read_log_spec =
+    tie.close
+    (tie.spec
     returns
     read-actions-requires
     same_length

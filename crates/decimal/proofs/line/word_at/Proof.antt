@@ -12,10 +12,12 @@ as-word-requires : tie.Need-as_word-requires
 as-word-requires c κs = search rules
 
 returns : tie.Need-returns
-returns c = c.as_word.ensures ∙ word_at_is _ _ _ c.before.next_number.ensures.answer
+returns c = c.as_word.ensures ∙ word_at_is _ _ _ c.next_number.ensures.answer
 
 pub word_at_spec : {M : Type 1} → statement M
-word_at_spec = tie.close (tie.spec
+word_at_spec =
+    tie.close
+    (tie.spec
     next-number-requires
     as-word-requires
     returns)

@@ -10,7 +10,7 @@ enum-known-number : tie.Need-enum_known-number
 enum-known-number c = search rules
 
 returns : tie.Need-returns-then-value-eq0
-returns c = sym (ap negated c.before.before.number-1.given.1 ∙ minus_zero _ _ c.if-value-eq0.true)
+returns c = sym (ap negated c.in-Natural.is ∙ minus_zero _ _ c.if-value-eq0.true)
 
 sub-t6 : tie.Need-overflow_sub-result
 sub-t6 c = search rules
@@ -22,16 +22,18 @@ enum-told-2 : tie.Need-enum_told-in-Bad
 enum-told-2 c = search rules
 
 returns-2 : tie.Need-returns-else-value-eq0
-returns-2 c = sym (ap negated c.before.before.number-1.given.1 ∙ minus_more _ _ c.if-value-eq0.false)
+returns-2 c = sym (ap negated c.in-Natural.is ∙ minus_more _ _ c.if-value-eq0.false)
 
 returns-3 : tie.Need-returns-in-Negative
-returns-3 c = sym (ap negated c.enum_told-1.given.1 ∙ minus_minus _ _)
+returns-3 c = sym (ap negated c.in-Negative.is ∙ minus_minus _ _)
 
 returns-4 : tie.Need-returns-in-Bad
-returns-4 c = sym (ap negated c.enum_told-in-Bad-1.given.1 ∙ minus_bad)
+returns-4 c = sym (ap negated c.in-Bad.is ∙ minus_bad)
 
 pub below_zero_spec : {M : Type 1} → statement M
-below_zero_spec = tie.close (tie.spec
+below_zero_spec =
+    tie.close
+    (tie.spec
     enum-known-number
     returns
     sub-t6

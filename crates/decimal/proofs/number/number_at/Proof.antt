@@ -16,12 +16,14 @@ ended-requires c κs = search rules
 
 returns : tie.Need-returns
 returns c =
-    subst⁻¹ (NumberContract c.before.before.before.args.line.now c.before.before.before.args.at)
-    (c.ended.ensures ∙ (ap (ended_in c.before.before.before.args.line.now) c.before.signed_at.ensures ∙ number_is c.before.before.before.args.line.now c.before.before.before.args.at))
-    (number_contract c.before.before.before.args.line.now c.before.before.before.args.at)
+    subst⁻¹ (NumberContract c.args.line.now c.args.at)
+    (c.ended.ensures ∙ (ap (ended_in c.args.line.now) c.signed_at.ensures ∙ number_is c.args.line.now c.args.at))
+    (number_contract c.args.line.now c.args.at)
 
 pub number_at_spec : {M : Type 1} → statement M
-number_at_spec = tie.close (tie.spec
+number_at_spec =
+    tie.close
+    (tie.spec
     signed-at-requires
     ended-requires
     returns)

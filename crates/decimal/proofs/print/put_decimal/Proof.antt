@@ -9,10 +9,10 @@ digit-count-requires : tie.Need-digit_count-requires
 digit-count-requires c κs = search rules
 
 add-last : tie.Need-overflow_add-last
-add-last c = omega (arith, last_room c.before.before.args.output.now c.before.before.args.at c.before.before.args.n c.before.before.ranges.n.fits c.before.before.requires _ c.digit_count.ensures, c.before.before.well-formed, c.before.before.requires)
+add-last c = omega (arith, last_room c.args.output.now c.args.at c.args.n c.ranges.n.fits c.requires _ c.digit_count.ensures, c.well_formed, c.requires)
 
 put-digits-requires : tie.Need-put_digits-requires
-put-digits-requires c κs = (omega (arith, c.before.digit_count.ensures), omega (arith, last_room c.before.before.before.args.output.now c.before.before.before.args.at c.before.before.before.args.n c.before.before.before.ranges.n.fits c.before.before.before.requires _ c.before.digit_count.ensures, c.before.before.before.requires))
+put-digits-requires c κs = (omega (arith, c.digit_count.ensures), omega (arith, last_room c.args.output.now c.args.at c.args.n c.ranges.n.fits c.requires _ c.digit_count.ensures, c.requires))
 
 cast-put-byte : tie.Need-overflow_cast-n
 cast-put-byte c = search rules
@@ -21,16 +21,18 @@ add-put-byte : tie.Need-overflow_add-n
 add-put-byte c = search rules
 
 put-byte-requires : tie.Need-put_byte-requires
-put-byte-requires c κs = omega (arith, last_room c.before.before.before.before.before.before.before.args.output.now c.before.before.before.before.before.before.before.args.at c.before.before.before.before.before.before.before.args.n c.before.before.before.before.before.before.before.ranges.n.fits c.before.before.before.before.before.before.before.requires _ c.before.before.before.before.before.digit_count.ensures, c.before.before.before.before.before.before.before.requires, c.before.before.before.put_digits.auto)
+put-byte-requires c κs = omega (arith, last_room c.args.output.now c.args.at c.args.n c.ranges.n.fits c.requires _ c.digit_count.ensures, c.requires, c.put_digits.auto)
 
 same_length : tie.Need-shape_of-output
 same_length c = search rules
 
 returns : tie.Need-returns
-returns c = decimal_wrote c.before.before.before.before.before.before.before.before.before.before.args.output.now c.before.before.before.before.before.before.before.before.before.before.args.at c.before.before.before.before.before.before.before.before.before.before.args.n c.before.before.before.before.before.before.before.before.before.before.ranges.n.fits c.before.before.before.before.before.before.before.before.before.before.requires _ c.before.before.before.before.before.before.before.before.digit_count.ensures _ _ _ c.before.before.before.before.before.before.put_digits.ensures c.before.before.put_byte.ensures
+returns c = decimal_wrote c.args.output.now c.args.at c.args.n c.ranges.n.fits c.requires _ c.digit_count.ensures _ _ _ c.put_digits.ensures c.put_byte.ensures
 
 pub put_decimal_spec : {M : Type 1} → statement M
-put_decimal_spec = tie.close (tie.spec
+put_decimal_spec =
+    tie.close
+    (tie.spec
     digit-count-requires
     add-last
     put-digits-requires

@@ -18,34 +18,36 @@ abbrev decreases-loop : tie.decreases-loop-i
 decreases-loop output₀ at words next₀ i₀ output next i = length words - i
 
 loop-holds : tie.Need-loop-i-init invariant-loop decreases-loop
-loop-holds c = (omega arith, omega arith, list_begins whole_text c.before.args.output.now c.before.args.at c.before.args.words.now)
+loop-holds c = (omega arith, omega arith, list_begins whole_text c.args.output.now c.args.at c.args.words.now)
 
 put-byte-requires : tie.Need-put_byte-behind-requires invariant-loop decreases-loop
-put-byte-requires c κs = omega (arith, c.before.before.loop-i.invariant.2.same, c.before.before.before.before.requires)
+put-byte-requires c κs = omega (arith, c.loop-i.invariant.2.same, c.requires)
 
 element-requires : tie.Need-element-requires invariant-loop decreases-loop
-element-requires c κs = omega (arith, c.before.before.before.before.before.loop-i-test.true)
+element-requires c κs = omega (arith, c.loop-i-test.true)
 
 put-word-requires : tie.Need-put_word-next-requires invariant-loop decreases-loop
-put-word-requires c κs = omega (arith, c.before.before.before.before.before.before.before.loop-i.invariant.2.same, c.before.before.before.before.before.before.before.before.before.requires, c.before.before.before.before.before.before.loop-i-test.true, c.before.before.before.before.put_byte-behind.ensures.end, c.before.before.before.before.put_byte-behind.auto)
+put-word-requires c κs = omega (arith, c.loop-i.invariant.2.same, c.requires, c.loop-i-test.true, c.put_byte-behind.ensures.end, c.put_byte-behind.auto)
 
 add-i : tie.Need-overflow_add-i invariant-loop decreases-loop
-add-i c = omega (arith, c.before.before.before.before.before.before.before.before.before.loop-i-test.true)
+add-i c = omega (arith, c.loop-i-test.true)
 
 loop-less : tie.Need-loop-i-smaller invariant-loop decreases-loop
-loop-less c = omega (arith, c.before.before.before.before.before.before.before.before.before.loop-i-test.true)
+loop-less c = omega (arith, c.loop-i-test.true)
 
 loop-again : tie.Need-loop-i-preserved invariant-loop decreases-loop
-loop-again c = (omega (arith, c.before.before.before.before.before.before.before.before.before.loop-i-test.true), omega (arith, c.before.before.put_word-next.ensures.1, c.before.before.before.before.before.before.before.put_byte-behind.ensures.end, c.before.before.before.before.before.before.before.before.before.before.loop-i.invariant), list_goes whole_text c.before.before.before.before.before.before.before.before.before.before.before.before.args.output.now c.before.before.before.before.before.before.before.before.before.before.before.before.args.at c.before.before.before.before.before.before.before.before.before.before.before.before.args.words.now c.before.before.before.before.before.before.before.before.before.before.loop-i.output c.before.before.before.before.before.before.before.before.before.before.loop-i.next c.before.before.before.before.before.before.before.before.before.before.loop-i.i c.before.before.before.before.before.before.before.before.before.before.loop-i.invariant.2 (pos 0) _ _ _ _ _ (kept_word _ _ c.before.before.before.element.type-inv c.before.before.before.element.ensures) c.before.before.before.before.before.before.before.before.before.loop-i-test.true (omega (arith, c.before.before.before.before.before.before.before.before.before.before.loop-i.invariant.2.same, c.before.before.before.before.before.before.before.before.before.before.loop-i.invariant.1, c.before.before.before.before.before.before.before.before.before.before.before.before.requires, c.before.before.before.before.before.before.before.before.before.loop-i-test.true)) c.before.before.before.before.before.before.before.put_byte-behind.ensures c.before.before.put_word-next.ensures.0 c.before.before.before.before.before.before.before.put_byte-behind.auto.0 c.before.before.put_word-next.auto.0)
+loop-again c = (omega (arith, c.loop-i-test.true), omega (arith, c.put_word-next.ensures.1, c.put_byte-behind.ensures.end, c.loop-i.invariant), list_goes whole_text c.args.output.now c.args.at c.args.words.now c.loop-i.output c.loop-i.next c.loop-i.i c.loop-i.invariant.2 (pos 0) _ _ _ _ _ (kept_word _ _ c.element.type-inv c.element.ensures) c.loop-i-test.true (omega (arith, c.loop-i.invariant.2.same, c.loop-i.invariant.1, c.requires, c.loop-i-test.true)) c.put_byte-behind.ensures c.put_word-next.ensures.0 c.put_byte-behind.auto.0 c.put_word-next.auto.0)
 
 same_length : tie.Need-shape_of-output invariant-loop decreases-loop
-same_length c = c.before.loop-i.invariant.2.same
+same_length c = c.loop-i.invariant.2.same
 
 returns : tie.Need-returns invariant-loop decreases-loop
-returns c = (list_ends whole_text c.before.before.before.args.output.now c.before.before.before.args.at c.before.before.before.args.words.now c.before.loop-i.output c.before.loop-i.next c.before.loop-i.i c.before.loop-i.invariant.2 c.loop-i-test.false, omega (arith, c.before.loop-i.invariant))
+returns c = (list_ends whole_text c.args.output.now c.args.at c.args.words.now c.loop-i.output c.loop-i.next c.loop-i.i c.loop-i.invariant.2 c.loop-i-test.false, omega (arith, c.loop-i.invariant))
 
 pub put_more_words_spec : {M : Type 1} → statement M
-put_more_words_spec = tie.close (tie.spec
+put_more_words_spec =
+    tie.close
+    (tie.spec
     invariant-loop
     decreases-loop
     loop-holds

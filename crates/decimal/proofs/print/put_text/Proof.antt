@@ -19,10 +19,10 @@ shared-slice-read-output : tie.Need-bounds-text-i invariant-loop decreases-loop
 shared-slice-read-output c = omega arith
 
 add-output : tie.Need-overflow_add-output invariant-loop decreases-loop
-add-output c = omega (arith, c.before.before.before.requires, c.before.before.before.well-formed)
+add-output c = omega (arith, c.requires, c.well_formed)
 
 slice-write-output : tie.Need-bounds-output-at invariant-loop decreases-loop
-slice-write-output c = omega (arith, c.before.before.before.requires, c.before.before.loop-i.invariant.1.same)
+slice-write-output c = omega (arith, c.requires, c.loop-i.invariant.1.same)
 
 add-i : tie.Need-overflow_add-i invariant-loop decreases-loop
 add-i c = omega arith
@@ -31,19 +31,21 @@ loop-less : tie.Need-loop-i-smaller invariant-loop decreases-loop
 loop-less c = omega arith
 
 loop-again : tie.Need-loop-i-preserved invariant-loop decreases-loop
-loop-again c = (omega arith, text_goes c.before.before.before.args.output.now c.before.before.before.args.at c.before.before.before.args.text.now c.before.before.before.requires c.before.before.loop-i.output c.before.before.loop-i.i c.before.before.loop-i.invariant.1 c.before.loop-i-test.true)
+loop-again c = (omega arith, text_goes c.args.output.now c.args.at c.args.text.now c.requires c.loop-i.output c.loop-i.i c.loop-i.invariant.1 c.loop-i-test.true)
 
 add-result : tie.Need-overflow_add-result invariant-loop decreases-loop
-add-result c = omega (arith, c.before.before.requires, c.before.before.well-formed)
+add-result c = omega (arith, c.requires, c.well_formed)
 
 same_length : tie.Need-shape_of-output invariant-loop decreases-loop
-same_length c = c.before.loop-i.invariant.1.same
+same_length c = c.loop-i.invariant.1.same
 
 returns : tie.Need-returns invariant-loop decreases-loop
-returns c = text_ends c.before.before.args.output.now c.before.before.args.at c.before.before.args.text.now c.before.before.requires c.before.loop-i.output c.before.loop-i.i c.before.loop-i.invariant.1 c.loop-i-test.false c.before.loop-i.invariant.0
+returns c = text_ends c.args.output.now c.args.at c.args.text.now c.requires c.loop-i.output c.loop-i.i c.loop-i.invariant.1 c.loop-i-test.false c.loop-i.invariant.0
 
 pub put_text_spec : {M : Type 1} → statement M
-put_text_spec = tie.close (tie.spec
+put_text_spec =
+    tie.close
+    (tie.spec
     invariant-loop
     decreases-loop
     loop-holds

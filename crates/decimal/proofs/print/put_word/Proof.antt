@@ -18,7 +18,7 @@ same_length : tie.Need-shape_of-output-then-word-lt0
 same_length c = search rules
 
 returns : tie.Need-returns-then-word-lt0
-returns c = negative_wrote c.before.before.before.before.before.before.before.before.before.before.before.args.output.now c.before.before.before.before.before.before.before.before.before.before.before.args.at _ _ _ c.before.before.before.before.before.before.before.before.before.before.before.args.word _ _ c.before.before.before.before.before.before.before.before.before.before.before.ranges.word c.before.before.before.before.before.before.before.before.before.if-word-lt0.true c.before.before.before.magnitude.ensures (omega (arith, c.before.before.before.before.before.before.before.before.before.before.before.requires)) c.before.before.before.before.before.before.before.put_byte-next.ensures c.before.before.put_decimal.ensures
+returns c = negative_wrote c.args.output.now c.args.at _ _ _ c.args.word _ _ c.ranges.word c.if-word-lt0.true c.magnitude.ensures (omega (arith, c.requires)) c.put_byte-next.ensures c.put_decimal.ensures
 
 magnitude-requires-2 : tie.Need-magnitude-requires-2
 magnitude-requires-2 c κs = search rules
@@ -30,10 +30,12 @@ same-length-2 : tie.Need-shape_of-output
 same-length-2 c = search rules
 
 returns-2 : tie.Need-returns
-returns-2 c = natural_wrote c.before.before.before.before.before.before.before.args.output.now c.before.before.before.before.before.before.before.args.at _ _ _ c.before.before.before.before.before.before.before.args.word c.before.before.before.before.before.before.before.ranges.word c.before.before.before.before.before.if-word-lt0.false c.before.before.before.magnitude-2.ensures c.before.before.put_decimal-2.ensures
+returns-2 c = natural_wrote c.args.output.now c.args.at _ _ _ c.args.word c.ranges.word c.if-word-lt0.false c.magnitude-2.ensures c.put_decimal-2.ensures
 
 pub put_word_spec : {M : Type 1} → statement M
-put_word_spec = tie.close (tie.spec
+put_word_spec =
+    tie.close
+    (tie.spec
     put-byte-requires
     magnitude-requires
     put-decimal-requires

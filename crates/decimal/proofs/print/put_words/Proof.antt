@@ -6,7 +6,7 @@ use Rattle.decimal.proofs.print.put_words.Statement.{statement}
 use Rattle.decimal.proofs.print.put_words.Tie as tie
 
 returns : tie.Need-returns-then-words-eq0
-returns c = (no_words c.before.before.args.output.now c.before.before.args.at c.before.before.args.words.now c.if-words-eq0.true, omega arith)
+returns c = (no_words c.args.output.now c.args.at c.args.words.now c.if-words-eq0.true, omega arith)
 
 element-requires : tie.Need-element-requires
 element-requires c κs = search rules
@@ -30,10 +30,12 @@ same_length : tie.Need-shape_of-output
 same_length c = search rules
 
 returns-2 : tie.Need-returns
-returns-2 c = (all_words c.before.before.before.before.before.before.before.before.before.before.before.before.args.output.now c.before.before.before.before.before.before.before.before.before.before.before.before.args.at c.before.before.before.before.before.before.before.before.before.before.before.before.args.words.now _ _ _ _ _ c.before.before.before.before.before.before.before.before.before.before.if-words-eq0.false (kept_word _ _ c.before.before.before.before.before.before.before.before.element.type-inv c.before.before.before.before.before.before.before.before.element.ensures) (omega (arith, c.before.before.before.before.before.before.before.put_word-next.ensures.1, c.before.before.before.before.before.before.before.before.before.before.before.before.requires, c.before.before.before.before.before.before.before.before.before.before.if-words-eq0.false)) c.before.before.before.before.before.before.before.put_word-next.ensures.0 c.before.before.put_more_words.ensures.0, words_room_lem c.before.before.before.before.before.before.before.before.before.before.before.before.args.output.now c.before.before.before.before.before.before.before.before.before.before.before.before.args.at c.before.before.before.before.before.before.before.before.before.before.before.before.args.words.now _ _ c.before.before.before.before.before.before.before.before.before.before.if-words-eq0.false c.before.before.before.before.before.before.before.put_word-next.ensures.1 c.before.before.put_more_words.ensures.1)
+returns-2 c = (all_words c.args.output.now c.args.at c.args.words.now _ _ _ _ _ c.if-words-eq0.false (kept_word _ _ c.element.type-inv c.element.ensures) (omega (arith, c.put_word-next.ensures.1, c.requires, c.if-words-eq0.false)) c.put_word-next.ensures.0 c.put_more_words.ensures.0, words_room_lem c.args.output.now c.args.at c.args.words.now _ _ c.if-words-eq0.false c.put_word-next.ensures.1 c.put_more_words.ensures.1)
 
 pub put_words_spec : {M : Type 1} → statement M
-put_words_spec = tie.close (tie.spec
+put_words_spec =
+    tie.close
+    (tie.spec
     returns
     element-requires
     put-word-requires

@@ -244,7 +244,9 @@ the-returns : tie.Need-returns
 the-returns c = search rules
 
 pub next_number_spec : {M : Type 1} → statement M
-next_number_spec = tie.close (tie.spec
+next_number_spec =
+    tie.close
+    (tie.spec
     the-new-reader-requires
     the-next-requires
     the-returns)

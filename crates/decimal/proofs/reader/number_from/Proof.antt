@@ -13,28 +13,30 @@ enum-known-number : tie.Need-enum_known-number
 enum-known-number c = search rules
 
 add-behind : tie.Need-overflow_add-behind
-add-behind c = omega (arith, read_inside _ _ _ c.before.before.before.number_at-number.ensures (pos c.before.number-1.given.0.0) c.before.number-1.given.0.1.0 c.before.number-1.given.1, c.before.before.before.before.before.well-formed)
+add-behind c = omega (arith, read_inside _ _ _ c.number_at-number.ensures (pos c.in-Natural.value) c.in-Natural.end c.in-Natural.is, c.well_formed)
 
 enum-known-number-2 : tie.Need-enum_known-number-in-Negative-1
 enum-known-number-2 c = search rules
 
 add-behind-2 : tie.Need-overflow_add-behind-in-Negative
-add-behind-2 c = omega (arith, read_inside _ _ _ c.before.before.before.number_at-number.ensures (negsuc c.before.number-in-Negative-1.given.0.0) c.before.number-in-Negative-1.given.0.1.0 c.before.number-in-Negative-1.given.1, c.before.before.before.before.before.well-formed)
+add-behind-2 c = omega (arith, read_inside _ _ _ c.number_at-number.ensures (negsuc c.in-Negative.below) c.in-Negative.end c.in-Negative.is, c.well_formed)
 
 enum_told : tie.Need-enum_told-1
 enum_told c = search rules
 
 returns : tie.Need-returns-in-Natural
-returns c = read_behind _ _ _ c.before.before.before.number_at-number.ensures (pos c.before.number-1.given.0.0) c.before.number-1.given.0.1.0 c.before.number-1.given.1
+returns c = read_behind _ _ _ c.number_at-number.ensures (pos c.in-Natural.value) c.in-Natural.end c.in-Natural.is
 
 returns-2 : tie.Need-returns-in-Negative
-returns-2 c = read_behind _ _ _ c.before.before.before.number_at-number.ensures (negsuc c.before.number-in-Negative-1.given.0.0) c.before.number-in-Negative-1.given.0.1.0 c.before.number-in-Negative-1.given.1
+returns-2 c = read_behind _ _ _ c.number_at-number.ensures (negsuc c.in-Negative.below) c.in-Negative.end c.in-Negative.is
 
 returns-3 : tie.Need-returns-in-Bad
 returns-3 c = search rules
 
 pub number_from_spec : {M : Type 1} → statement M
-number_from_spec = tie.close (tie.spec
+number_from_spec =
+    tie.close
+    (tie.spec
     number-at-requires
     enum-known-number
     add-behind

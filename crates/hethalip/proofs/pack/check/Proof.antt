@@ -16,14 +16,16 @@ number-requires c κs = search rules
 
 returns : tie.Need-returns-in-Good
 unfolding pack_check check_says
-returns c = rw c.enum_told-1.given.1
+returns c = rw c.in-Good.is
 
 returns-2 : tie.Need-returns-in-Refused
 unfolding pack_check check_says
-returns-2 c = rw c.before.before.answer-1.given.1 c.number.ensures
+returns-2 c = rw c.in-Refused.is c.number.ensures
 
 pub check_spec : {M : Type 1} → statement M
-check_spec = tie.close (tie.spec
+check_spec =
+    tie.close
+    (tie.spec
     enum_told
     enum-known-answer
     number-requires

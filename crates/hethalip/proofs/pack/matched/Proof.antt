@@ -13,13 +13,13 @@ enum-known-answer : tie.Need-enum_known-answer
 enum-known-answer c = search rules
 
 counted-requires : tie.Need-counted-requires
-counted-requires c κs = (lit< tt, omega (arith, subst MatchInRange c.before.answer-1.given.1 c.before.before.before.requires))
+counted-requires c κs = (lit< tt, omega (arith, subst MatchInRange c.in-Matches.is c.requires))
 
 enum-known-answer-2 : tie.Need-enum_known-answer-in-Differs-1
 enum-known-answer-2 c = search rules
 
 counted-requires-2 : tie.Need-counted-requires-in-Differs
-counted-requires-2 c κs = (lit< tt, omega (arith, subst MatchInRange c.before.answer-in-Differs-1.given.1 c.before.before.before.requires))
+counted-requires-2 c κs = (lit< tt, omega (arith, subst MatchInRange c.in-Differs.is c.requires))
 
 enum-known-answer-3 : tie.Need-enum_known-answer-in-Refused-1
 enum-known-answer-3 c = search rules
@@ -29,18 +29,20 @@ number-requires c κs = search rules
 
 returns : tie.Need-returns-in-Matches
 unfolding pack_match match_says
-returns c = rw c.before.before.answer-1.given.1 c.counted.ensures
+returns c = rw c.in-Matches.is c.counted.ensures
 
 returns-2 : tie.Need-returns-in-Differs
 unfolding pack_match match_says
-returns-2 c = rw c.before.before.answer-in-Differs-1.given.1 c.counted-in-Differs.ensures
+returns-2 c = rw c.in-Differs.is c.counted-in-Differs.ensures
 
 returns-3 : tie.Need-returns-in-Refused
 unfolding pack_match match_says
-returns-3 c = rw c.before.before.answer-in-Refused-1.given.1 c.number.ensures
+returns-3 c = rw c.in-Refused.is c.number.ensures
 
 pub matched_spec : {M : Type 1} → statement M
-matched_spec = tie.close (tie.spec
+matched_spec =
+    tie.close
+    (tie.spec
     enum-known-answer
     counted-requires
     enum-known-answer-2

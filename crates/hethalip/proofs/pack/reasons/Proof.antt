@@ -16,7 +16,7 @@ enum-known-answer : tie.Need-enum_known-answer
 enum-known-answer c = search rules
 
 counted-requires : tie.Need-counted-requires
-counted-requires c κs = (lit< tt, omega (arith, subst ReasonsInRange c.before.answer-1.given.1 c.before.before.before.requires))
+counted-requires c κs = (lit< tt, omega (arith, subst ReasonsInRange c.in-NotStuck.is c.requires))
 
 enum-known-answer-2 : tie.Need-enum_known-answer-in-Refused-1
 enum-known-answer-2 c = search rules
@@ -26,18 +26,20 @@ number-requires c κs = search rules
 
 returns : tie.Need-returns-in-Listed
 unfolding pack_reasons reasons_says
-returns c = rw c.enum_told-1.given.1
+returns c = rw c.in-Listed.is
 
 returns-2 : tie.Need-returns-in-NotStuck
 unfolding pack_reasons reasons_says
-returns-2 c = rw c.before.before.answer-1.given.1 c.counted.ensures
+returns-2 c = rw c.in-NotStuck.is c.counted.ensures
 
 returns-3 : tie.Need-returns-in-Refused
 unfolding pack_reasons reasons_says
-returns-3 c = rw c.before.before.answer-in-Refused-1.given.1 c.number.ensures
+returns-3 c = rw c.in-Refused.is c.number.ensures
 
 pub reasons_spec : {M : Type 1} → statement M
-reasons_spec = tie.close (tie.spec
+reasons_spec =
+    tie.close
+    (tie.spec
     enum_told
     enum-known-answer
     counted-requires

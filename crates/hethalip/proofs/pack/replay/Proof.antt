@@ -19,18 +19,20 @@ number-requires c κs = search rules
 
 returns : tie.Need-returns-in-Reproduced
 unfolding pack_replay replay_says
-returns c = rw c.enum_told-1.given.1
+returns c = rw c.in-Reproduced.is
 
 returns-2 : tie.Need-returns-in-NotReproduced
 unfolding pack_replay replay_says
-returns-2 c = rw c.enum_told-in-NotReproduced-1.given.1
+returns-2 c = rw c.in-NotReproduced.is
 
 returns-3 : tie.Need-returns-in-Refused
 unfolding pack_replay replay_says
-returns-3 c = rw c.before.before.answer-1.given.1 c.number.ensures
+returns-3 c = rw c.in-Refused.is c.number.ensures
 
 pub replay_spec : {M : Type 1} → statement M
-replay_spec = tie.close (tie.spec
+replay_spec =
+    tie.close
+    (tie.spec
     enum_told
     enum-told-2
     enum-known-answer

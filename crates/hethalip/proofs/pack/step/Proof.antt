@@ -12,7 +12,7 @@ enum-known-answer c = search rules
 
 stepped-requires : tie.Need-stepped-requires
 stepped-requires c κs =
-    let h = subst StepInRange c.before.answer-1.given.1 c.before.before.before.requires in (h.0, h.2)
+    let h = subst StepInRange c.in-Stepped.is c.requires in (h.0, h.2)
 
 enum_told : tie.Need-enum_told-1
 enum_told c = search rules
@@ -25,18 +25,20 @@ number-requires c κs = search rules
 
 returns : tie.Need-returns-in-Stepped
 unfolding pack_step step_says
-returns c = rw c.before.before.answer-1.given.1 c.stepped.ensures
+returns c = rw c.in-Stepped.is c.stepped.ensures
 
 returns-2 : tie.Need-returns-in-Stuck
 unfolding pack_step step_says
-returns-2 c = rw c.enum_told-1.given.1
+returns-2 c = rw c.in-Stuck.is
 
 returns-3 : tie.Need-returns-in-Refused
 unfolding pack_step step_says
-returns-3 c = rw c.before.before.answer-in-Refused-1.given.1 c.number.ensures
+returns-3 c = rw c.in-Refused.is c.number.ensures
 
 pub step_spec : {M : Type 1} → statement M
-step_spec = tie.close (tie.spec
+step_spec =
+    tie.close
+    (tie.spec
     enum-known-answer
     stepped-requires
     enum_told

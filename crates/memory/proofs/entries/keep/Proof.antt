@@ -10,7 +10,7 @@ use Rattle.memory.proofs.entries.keep.Statement.{statement}
 use Rattle.memory.proofs.entries.keep.Tie as tie
 
 returns : tie.Need-returns-then-room-lt16
-returns c = let a = c.before.args in kept_small a.room a.work.now a.at a.words c.if-room-lt16.true
+returns c = let a = c.args in kept_small a.room a.work.now a.at a.words c.if-room-lt16.true
 
 add-put : tie.Need-overflow_add-at
 add-put c = search rules
@@ -28,15 +28,15 @@ same_length c = search rules
 returns-2 : tie.Need-returns-then-not-wanted
 returns-2 c =
     let e = c.before.before.before.before in
-    let a = e.before.args in
-    subst⁻¹ (λ (x : List ℤ). Keeping a.room a.work.now x a.at a.words) c.before.put.ensures (kept_shut a.room a.work.now a.at a.words _ (shut_opens a.room a.work.now a.at e.before.requires.0 e.if-room-lt16.false))
+    let a = e.args in
+    subst⁻¹ (λ (x : List ℤ). Keeping a.room a.work.now x a.at a.words) c.put.ensures (kept_shut a.room a.work.now a.at a.words _ (shut_opens a.room a.work.now a.at e.requires.0 e.if-room-lt16.false))
 
 ready-requires : tie.Need-ready-requires
 ready-requires c κs = search rules
 
 put-own-requires : tie.Need-put_own-requires
 put-own-requires c κs =
-    let r = c.before.before.ready in
+    let r = c.ready in
     let s = c.before.before.before.before.before.before in
     let a = s.args in
     (omega (arith, s.requires.0, r.ensures.inside.wide), s.requires.1, inside_spare a.room a.work.now r.new.0 a.at r.ensures.inside s.requires.3)
@@ -46,11 +46,13 @@ same-length-2 c = search rules
 
 returns-3 : tie.Need-returns
 returns-3 c =
-    let a = c.before.before.before.before.before.before.before.before.args in
-    kept_both a.room a.work.now a.at a.words _ _ c.before.before.before.before.ready.ensures c.before.put_own.ensures
+    let a = c.args in
+    kept_both a.room a.work.now a.at a.words _ _ c.ready.ensures c.put_own.ensures
 
 pub keep_spec : {M : Type 1} → statement M
-keep_spec = tie.close (tie.spec
+keep_spec =
+    tie.close
+    (tie.spec
     returns
     add-put
     sub-put

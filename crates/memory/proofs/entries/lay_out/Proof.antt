@@ -20,8 +20,8 @@ in_room : (c : tie.After-smaller-count) → let s = c.before.before in (c.smalle
 unfolding width
 in_room c =
     let s = c.before.before in
-    let h : c.smaller-count.result + 1 ≤ (s.args.room - 2) / width s = omega (arith, c.smaller-count.ensures.0, c.before.if-parts-lt2.left) in
-    omega (arith, mul-le-mul_right (width s) h, div-mul-le_self (s.args.room - 2) (width s), s.pre.2)
+    let h : c.smaller-count.result + 1 ≤ (s.args.room - 2) / width s = omega (arith, c.smaller-count.ensures.0, c.if-parts-lt2.false) in
+    omega (arith, mul-le-mul_right (width s) h, div-mul-le_self (s.args.room - 2) (width s), s.requires.2)
 
 add-width : tie.Need-overflow_add-width
 add-width c = search rules
@@ -51,7 +51,7 @@ returns : tie.Need-returns-then-parts-lt2
 returns c =
     let s = c.before.before.before.before in
     let a = s.args in
-    subst⁻¹ (λ (x : List ℤ). Opens a.room a.work.now x a.at) c.before.put.ensures (shut_opens a.room a.work.now a.at s.pre.0 s.pre.2)
+    subst⁻¹ (λ (x : List ℤ). Opens a.room a.work.now x a.at) c.put.ensures (shut_opens a.room a.work.now a.at s.requires.0 s.requires.2)
 
 sub-smaller : tie.Need-overflow_sub-parts-2
 sub-smaller c = search rules
@@ -63,7 +63,7 @@ empty-requires : tie.Need-empty-requires
 unfolding width
 empty-requires c κs =
     let s = c.before.before.before in
-    (omega (arith, in_room c.before, s.pre.0), omega arith, c.before.smaller-count.ensures.1)
+    (omega (arith, in_room c.before, s.requires.0), omega arith, c.smaller-count.ensures.1)
 
 add-put-2 : tie.Need-overflow_add-at-2
 add-put-2 c = search rules
@@ -93,12 +93,14 @@ returns-2 c =
     let m = e.before.before in
     let s = m.before.before in
     let a = s.args in
-    let z : c.before.put-3.last.0 ≡ set (set e.empty.last.0 (a.at + a.room - 1) (pos (width s))) (a.at + a.room - 2) (pos m.smaller-count.result) =
-    c.before.put-3.ensures ∙ ap (λ (x : List ℤ). set x (a.at + a.room - 2) (pos m.smaller-count.result)) c.before.before.before.before.put-2.ensures in
-    subst⁻¹ (λ (x : List ℤ). Opens a.room a.work.now x a.at) z (anew_opens a.room a.work.now a.at s.pre.0 s.pre.2 (width s) m.smaller-count.result e.empty.last.0 (omega (arith, s.pre.4)) (in_room m) e.empty.ensures)
+    let z : c.put-3.new.words ≡ set (set e.empty.new.work (a.at + a.room - 1) (pos (width s))) (a.at + a.room - 2) (pos m.smaller-count.result) =
+    c.put-3.ensures ∙ ap (λ (x : List ℤ). set x (a.at + a.room - 2) (pos m.smaller-count.result)) c.put-2.ensures in
+    subst⁻¹ (λ (x : List ℤ). Opens a.room a.work.now x a.at) z (anew_opens a.room a.work.now a.at s.requires.0 s.requires.2 (width s) m.smaller-count.result e.empty.new.work (omega (arith, s.requires.4)) (in_room m) e.empty.ensures)
 
 pub lay_out_spec : {M : Type 1} → statement M
-lay_out_spec = tie.close (tie.spec
+lay_out_spec =
+    tie.close
+    (tie.spec
     add-width
     add-width-2
     sub_parts

@@ -12,18 +12,18 @@ use Rattle.memory.proofs.entries.put_own.Statement.{statement}
 use Rattle.memory.proofs.entries.put_own.Tie as tie
 
 -- the slot, where it lies, and that the own configuration fits into it
-slot : (c : tie.Else-place-eq0) → let a = c.before.before.before.before.before.before.args in Slot a.room a.work.now a.at a.words c.before.slot_at-place.result
+slot : (c : tie.Else-place-eq0) → let a = c.before.before.args in Slot a.room a.work.now a.at a.words c.slot_at-place.result
 slot c =
-    let a = c.before.before.before.before.before.before.args in
-    slot_there a.room a.work.now a.at a.words c.before.slot_at-place.result c.if-place-eq0.false c.before.slot_at-place.ensures
+    let a = c.before.before.args in
+    slot_there a.room a.work.now a.at a.words c.slot_at-place.result c.if-place-eq0.false c.slot_at-place.ensures
 
-fits : (c : tie.Else-place-eq0) → let a = c.before.before.before.before.before.before.args in
-    (a.at + c.before.slot_at-place.result + 1 + length_of a.room a.work.now a.at ≤ length a.work.now) × (length_of a.room a.work.now a.at < c.before.slot_at-place.result) × (length_of a.room a.work.now a.at < 65536)
+fits : (c : tie.Else-place-eq0) → let a = c.before.before.args in
+    (a.at + c.slot_at-place.result + 1 + length_of a.room a.work.now a.at ≤ length a.work.now) × (length_of a.room a.work.now a.at < c.slot_at-place.result) × (length_of a.room a.work.now a.at < 65536)
 fits c =
-    let s = c.before.before.before.before.before.before in
+    let s = c.before.before in
     let a = s.args in
-    let r = slot_room a.room a.work.now a.at a.words c.before.slot_at-place.result (slot c) in
-    let b = slot_above a.room a.work.now a.at a.words c.before.slot_at-place.result (slot c) in
+    let r = slot_room a.room a.work.now a.at a.words c.slot_at-place.result (slot c) in
+    let b = slot_above a.room a.work.now a.at a.words c.slot_at-place.result (slot c) in
     let o = (slot c).own in
     (omega (arith, s.requires.0), omega arith, omega (arith, s.requires.1))
 
@@ -41,7 +41,7 @@ same_length c = search rules
 
 returns : tie.Need-returns-then-place-eq0
 returns c =
-    let a = c.before.before.before.before.before.before.args in
+    let a = c.before.before.args in
     none_put a.room a.work.now a.at
 
 add-number-at : tie.Need-overflow_add-at
@@ -55,7 +55,7 @@ add-put c = omega (arith, (fits c.before.before.before).0)
 
 put-requires : tie.Need-put-requires
 unfolding length_of
-put-requires c κs = let f = fits c.before.before.before in (omega (arith, f.0), omega (arith, f.2, c.before.number_at-own.ensures))
+put-requires c κs = let f = fits c.before.before.before in (omega (arith, f.0), omega (arith, f.2, c.number_at-own.ensures))
 
 add-copy-up : tie.Need-overflow_add-at-3
 add-copy-up c = omega (arith, (fits c.before.before.before.before.before.before).0)
@@ -67,8 +67,8 @@ copy-up-requires : tie.Need-copy_up-requires
 unfolding length_of
 copy-up-requires c κs =
     let f = fits c.before.before.before.before.before.before in
-    let e = c.before.before.before.before.number_at-own.ensures in
-    let l = c.before.before.put.auto.0 in
+    let e = c.number_at-own.ensures in
+    let l = c.put.auto.0 in
     (omega (arith, f.1, e), omega (arith, f.0, e, l))
 
 same-length-2 : tie.Need-shape_of-work
@@ -79,12 +79,14 @@ unfolding length_of
 returns-2 c =
     let n = c.before.before.before.before.before.before in
     let e = n.before.before in
-    let s = e.before.before.before.before.before.before in
+    let s = e.before.before.before in
     let a = s.args in
-    own_puts a.room a.work.now a.at a.words e.before.slot_at-place.result s.requires.0 (slot e) _ (rw (c.before.before.before.before.put.ensures, n.number_at-own.ensures) at c.before.copy_up.ensures)
+    own_puts a.room a.work.now a.at a.words e.slot_at-place.result s.requires.0 (slot e) _ (rw (c.put.ensures, n.number_at-own.ensures) at c.copy_up.ensures)
 
 pub put_own_spec : {M : Type 1} → statement M
-put_own_spec = tie.close (tie.spec
+put_own_spec =
+    tie.close
+    (tie.spec
     configuration-requires
     mixed-requires
     slot-at-requires

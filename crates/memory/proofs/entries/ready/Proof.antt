@@ -32,9 +32,9 @@ same_length c = search rules
 
 returns : tie.Need-returns-then-own-eq0
 returns c =
-    let s = c.before.before.before.before.before.before in
+    let s = c.before in
     let a = s.args in
-    subst⁻¹ (λ (x : List ℤ). Readies a.room a.work.now x a.at a.words) c.before.put.ensures (opens_readies a.room a.work.now a.at a.words _ (shut_opens a.room a.work.now a.at s.requires.0 s.requires.2))
+    subst⁻¹ (λ (x : List ℤ). Readies a.room a.work.now x a.at a.words) c.put.ensures (opens_readies a.room a.work.now a.at a.words _ (shut_opens a.room a.work.now a.at s.requires.0 s.requires.2))
 
 slot-at-requires : tie.Need-slot_at-place-requires
 slot-at-requires c κs = search rules
@@ -44,9 +44,9 @@ same-length-2 c = search rules
 
 returns-2 : tie.Need-returns-then-place-ne0
 returns-2 c =
-    let s = c.before.before.before.before.before.before in
+    let s = c.before.before in
     let a = s.args in
-    slot_readies a.room a.work.now a.at a.words c.before.slot_at-place.result (slot_there a.room a.work.now a.at a.words c.before.slot_at-place.result c.if-place-ne0.true c.before.slot_at-place.ensures)
+    slot_readies a.room a.work.now a.at a.words c.slot_at-place.result (slot_there a.room a.work.now a.at a.words c.slot_at-place.result c.if-place-ne0.true c.slot_at-place.ensures)
 
 larger-requires : tie.Need-larger-requires
 larger-requires c κs = search rules
@@ -66,12 +66,14 @@ same-length-3 c = search rules
 
 returns-3 : tie.Need-returns
 returns-3 c =
-    let s = c.before.before.before.before.before.before.before.before.before.before in
+    let s = c.before.before in
     let a = s.args in
-    opens_readies a.room a.work.now a.at a.words _ c.before.lay_out.ensures
+    opens_readies a.room a.work.now a.at a.words _ c.lay_out.ensures
 
 pub ready_spec : {M : Type 1} → statement M
-ready_spec = tie.close (tie.spec
+ready_spec =
+    tie.close
+    (tie.spec
     add-number-at
     number-at-requires
     add-put

@@ -24,17 +24,17 @@ enum-known-found c = search rules
 
 write-choices-requires : tie.Need-write_choices-requires
 write-choices-requires c κs =
-    let g = c.before.before.before in
-    let s = g.before.before.before.before in
+    let g = c.before in
+    let s = g.before in
     let p = s.requires in
-    (p.0, ((p.1.0.3, omega (arith, p.1.0), p.1.0.2), (path s.args.found g.found-1.given.0.0 _ s.args.actions s.args.room s.args.work.now g.found-1.given.1 p.1.1).1))
+    (p.0, ((p.1.0.3, omega (arith, p.1.0), p.1.0.2), (path s.args.found g.in-Path.words _ s.args.actions s.args.room s.args.work.now g.in-Path.is p.1.1).1))
 
 give-back-requires : tie.Need-give_back-requires
 give-back-requires c κs =
-    let g = c.before.before.before.before.before.before.before.before in
-    let s = g.before.before.before.before in
+    let g = c.before.before.before.before.before.before in
+    let s = g.before in
     let p = s.requires in
-    (omega (arith, p.1.0, g.before.before.base_at-at.ensures), p.1.0.1, (path s.args.found g.found-1.given.0.0 _ s.args.actions s.args.room s.args.work.now g.found-1.given.1 p.1.1).0)
+    (omega (arith, p.1.0, g.base_at-at.ensures), p.1.0.1, (path s.args.found g.in-Path.words _ s.args.actions s.args.room s.args.work.now g.in-Path.is p.1.1).0)
 
 enum_told : tie.Need-enum_told-1
 enum_told c = search rules
@@ -59,10 +59,10 @@ same-length-3 c = search rules
 
 returns : tie.Need-returns-in-Path
 returns c =
-    let g = c.before.before.before.before.before.before.before.before.before.before.before in
-    let b = c.before.before.give_back.ensures in
-    let at = g.before.before.base_at-at.ensures in
-    rw g.found-1.given.1 (record { answer = refl; leaves = rw at at b.0; leaves_choices_lem = c.before.before.before.before.before.before.before.write_choices.ensures; leaves_work_lem = rw at at b.1 })
+    let g = c.before.before.before.before.before.before.before.before.before in
+    let b = c.give_back.ensures in
+    let at = g.base_at-at.ensures in
+    rw g.in-Path.is (record { answer = refl; leaves = rw at at b.0; leaves_choices_lem = c.write_choices.ensures; leaves_work_lem = rw at at b.1 })
 
 same-length-4 : tie.Need-shape_of-out-in-Over
 same-length-4 c = search rules
@@ -73,9 +73,9 @@ same-length-5 c = search rules
 returns-2 : tie.Need-returns-in-Over
 returns-2 c =
     let g = c.before.before.before.before.before in
-    let b = c.before.before.give_back-in-Over.ensures in
-    let at = g.before.before.base_at-at.ensures in
-    rw g.enum_told-1.given.1 (record { answer = refl; leaves = rw at at b.0; leaves_choices_lem = refl; leaves_work_lem = rw at at b.1 })
+    let b = c.give_back-in-Over.ensures in
+    let at = g.base_at-at.ensures in
+    rw g.in-Over.is (record { answer = refl; leaves = rw at at b.0; leaves_choices_lem = refl; leaves_work_lem = rw at at b.1 })
 
 same-length-6 : tie.Need-shape_of-out-in-Nothing
 same-length-6 c = search rules
@@ -86,12 +86,14 @@ same-length-7 c = search rules
 returns-3 : tie.Need-returns-in-Nothing
 returns-3 c =
     let g = c.before.before.before.before.before in
-    let b = c.before.before.give_back-in-Nothing.ensures in
-    let at = g.before.before.base_at-at.ensures in
-    rw g.enum_told-in-Nothing-1.given.1 (record { answer = refl; leaves = rw at at b.0; leaves_choices_lem = refl; leaves_work_lem = rw at at b.1 })
+    let b = c.give_back-in-Nothing.ensures in
+    let at = g.base_at-at.ensures in
+    rw g.in-Nothing.is (record { answer = refl; leaves = rw at at b.0; leaves_choices_lem = refl; leaves_work_lem = rw at at b.1 })
 
 pub conclude_spec : {M : Type 1} → statement M
-conclude_spec = tie.close (tie.spec
+conclude_spec =
+    tie.close
+    (tie.spec
     base-at-requires
     enum-known-found
     write-choices-requires

@@ -56,7 +56,7 @@ slice-relend-prefix-clear c = search rules
 
 slice-aggregate-clear : tie.Need-slice_bounds-clear-end-2
 slice-aggregate-clear c =
-    let s = c.before.before.before.before.before.before in
+    let s = c.before in
     sym (length-take-le (s.args.at + (s.args.room + 2)) s.args.work.now s.requires.0)
 
 clear-requires : tie.Need-clear-requires
@@ -71,12 +71,14 @@ same-length-2 c = search rules
 returns : tie.Need-returns
 returns c =
     let q = c.before.before.before.before in
-    let s = q.before.before.before.before in
+    let s = q.before in
     let a = s.args in
-    (q.copy.ensures ∙ restore_is a.room a.words a.at a.out.now a.work.now s.requires.2 (omega (arith, s.requires)), zeros_front (a.at + (a.room + 2)) a.work.now _ s.requires.0 c.before.clear.ensures)
+    (q.copy.ensures ∙ restore_is a.room a.words a.at a.out.now a.work.now s.requires.2 (omega (arith, s.requires)), zeros_front (a.at + (a.room + 2)) a.work.now _ s.requires.0 c.clear.ensures)
 
 pub give_back_spec : {M : Type 1} → statement M
-give_back_spec = tie.close (tie.spec
+give_back_spec =
+    tie.close
+    (tie.spec
     add-from
     add-to
     mul-copy

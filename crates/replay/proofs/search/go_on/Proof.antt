@@ -18,12 +18,12 @@ fits s =
     frame_fits a.table.now a.index.now a.rules a.room a.log.now a.out.now a.work.now a.depth s.requires.0 s.requires.1.0.0 s.requires.1.1.1
 
 base-at-requires : tie.Need-base_at-at-requires
-base-at-requires c κs = (c.before.requires.0.narrow, omega (arith, fits c.before))
+base-at-requires c κs = (c.requires.0.narrow, omega (arith, fits c.before))
 
 try-at-requires : tie.Need-try_at-answer-requires
 try-at-requires c κs =
     let b = c.before.before in
-    let s = b.before.before in
+    let s = b.before in
     let a = s.args in
     let p = s.requires in (
       (omega (arith, fits s, b.base_at-at.ensures), p.0.out_fits, omega (arith, p.1.0.1, p.0.rules_are)),
@@ -36,26 +36,26 @@ add-set-position c = search rules
 set-position-requires : tie.Need-set_position-requires
 set-position-requires c κs =
     let b = c.before.before.before.before.before in
-    let s = b.before.before in
+    let s = b.before in
     (omega (arith, fits s, b.base_at-at.ensures), omega (arith, s.requires.1.0.1, s.requires.0.few))
 
 -- what `try_at` answers and leaves, at the frame's place
-tried : (c : tie.After-try_at-answer) → let a = c.before.before.before.before.before.args in
-    TryContract a.table.now (words_of a.room a.work.now (base a.room a.depth)) (get_or (order (table_of a.table.now)) a.position 0) a.room a.out.now c.try_at-answer.new.1.1.1.1.1.0 c.try_at-answer.result
-tried c = rw c.before.before.before.base_at-at.ensures at c.try_at-answer.ensures
+tried : (c : tie.After-try_at-answer) → let a = c.before.args in
+    TryContract a.table.now (words_of a.room a.work.now (base a.room a.depth)) (get_or (order (table_of a.table.now)) a.position 0) a.room a.out.now c.try_at-answer.new.out c.try_at-answer.result
+tried c = rw c.base_at-at.ensures at c.try_at-answer.ensures
 
 settle-requires : tie.Need-settle-requires
 settle-requires c κs =
     let k = c.before.before.before.before.before.before in
-    let s = k.before.before.before.before.before in
+    let s = k.before.before in
     let a = s.args in
     let p = s.requires in
-    let e : length c.before.before.before.set_position.new.0 ≡ length a.work.now = c.before.before.before.set_position.auto.0 in (
+    let e : length c.before.before.before.set-position.new.0 ≡ length a.work.now = c.set_position.auto.0 in (
       (p.1.0.0, omega (arith, e, p.0.work_fits), p.0.narrow),
       (
         made_within a.table.now a.index.now a.rules a.room a.log.now a.out.now a.work.now a.depth p.0 p.1.0.0 p.1.1.1 a.position p.1.1.0 p.1.0.1
-            k.try_at-answer.new.1.1.1.1.1.0 k.try_at-answer.result (tried k),
-        rw (c.before.before.before.set_position.ensures, k.before.before.before.base_at-at.ensures) (spare_within a.table.now a.index.now a.rules a.room a.log.now a.out.now a.work.now a.depth p.0 p.1.0.0 p.1.1.1 a.position p.1.1.0 p.1.0.1),
+            k.try_at-answer.new.out k.try_at-answer.result (tried k),
+        rw (c.set_position.ensures, k.base_at-at.ensures) (spare_within a.table.now a.index.now a.rules a.room a.log.now a.out.now a.work.now a.depth p.0 p.1.0.0 p.1.1.1 a.position p.1.1.0 p.1.0.1),
       ),
     )
 
@@ -68,14 +68,16 @@ same-length-2 c = search rules
 returns : tie.Need-returns
 returns c =
     let k = c.before.before.before.before.before.before.before.before in
-    let s = k.before.before.before.before.before in
+    let s = k.before.before in
     let a = s.args in
     let p = s.requires in
     turned a.table.now a.index.now a.rules a.room a.log.now a.out.now a.work.now a.depth p.0 p.1.0.0 p.1.1.1 a.position p.1.1.0 p.1.0.1
-    k.try_at-answer.new.1.1.1.1.1.0 k.try_at-answer.result (tried k) a.remember _ _ (rw (c.before.before.before.before.before.set_position.ensures, k.before.before.before.base_at-at.ensures) at c.before.settle.ensures)
+    k.try_at-answer.new.out k.try_at-answer.result (tried k) a.remember _ _ (rw (c.set_position.ensures, k.base_at-at.ensures) at c.settle.ensures)
 
 pub go_on_spec : {M : Type 1} → statement M
-go_on_spec = tie.close (tie.spec
+go_on_spec =
+    tie.close
+    (tie.spec
     base-at-requires
     try-at-requires
     add-set-position

@@ -24,32 +24,34 @@ enum-known-answer c = search rules
 
 mul-descend : tie.Need-overflow_mul-nodes
 mul-descend c =
-    let s = c.before.before.before in
-    let g = c.before.answer-1.given in
+    let s = c.before in
+    let g = c.answer-1.given in
     omega (arith, made s.args.answer g.0.0 g.0.1.0 g.0.1.1.0 s.args.room (length s.args.out.now) g.1 s.requires.1.0)
 
 descend-requires : tie.Need-descend-requires
 descend-requires c κs =
-    let b = c.before.before in
-    let s = b.before.before in
+    let b = c.before in
+    let s = b.before in
     let g = b.answer-1.given in
     let m = made s.args.answer g.0.0 g.0.1.0 g.0.1.1.0 s.args.room (length s.args.out.now) g.1 s.requires.1.0 in
     (s.requires.0, ((omega (arith, m.0), m.1, m.2), s.requires.1.1))
 
 returns : tie.Need-returns-in-Stuck
-returns c = rw c.enum_told-1.given.1 (refl, refl)
+returns c = rw c.in-Stuck.is (refl, refl)
 
 returns-2 : tie.Need-returns-in-Refused
-returns-2 c = rw c.enum_told-in-Refused-1.given.1 (refl, refl)
+returns-2 c = rw c.in-Refused.is (refl, refl)
 
 same_length : tie.Need-shape_of-work
 same_length c = search rules
 
 returns-3 : tie.Need-returns-in-Stepped
-returns-3 c = rw c.before.before.before.before.answer-1.given.1 c.before.descend.ensures
+returns-3 c = rw c.in-Stepped.is c.descend.ensures
 
 pub settle_spec : {M : Type 1} → statement M
-settle_spec = tie.close (tie.spec
+settle_spec =
+    tie.close
+    (tie.spec
     enum_told
     enum-told-2
     enum-known-answer

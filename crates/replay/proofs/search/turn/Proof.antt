@@ -17,12 +17,12 @@ fits s =
     frame_fits a.table.now a.index.now a.rules a.room a.log.now a.out.now a.work.now a.depth s.requires.0 s.requires.1.0 s.requires.1.1
 
 base-at-requires : tie.Need-base_at-at-requires
-base-at-requires c κs = (c.before.requires.0.narrow, omega (arith, fits c.before))
+base-at-requires c κs = (c.requires.0.narrow, omega (arith, fits c.before))
 
 position-requires : tie.Need-position-from-requires
 position-requires c κs =
-    let s = c.before.before.before in
-    omega (arith, fits s, c.before.base_at-at.ensures)
+    let s = c.before in
+    omega (arith, fits s, c.base_at-at.ensures)
 
 mul-seek : tie.Need-offset_bounds-log-depth
 mul-seek c = search rules
@@ -33,24 +33,24 @@ shared-slice-read-seek c = search rules
 seek-requires : tie.Need-seek-position-requires
 seek-requires c κs =
     let f = c.before in
-    let s = f.before.before.before.before in
+    let s = f.before in
     let p = s.requires in
     let e = f.position-from.ensures in
-    (p.0.indexed, (p.0.rules_are, rw (e, f.before.before.base_at-at.ensures) (p.1.1.frames s.args.depth (omega arith)).position))
+    (p.0.indexed, (p.0.rules_are, rw (e, f.base_at-at.ensures) (p.1.1.frames s.args.depth (omega arith)).position))
 
 -- what `seek` tells, from the frame's own position on
-sought : (c : tie.After-seek-position) → let a = c.before.before.before.before.before.before.args in
+sought : (c : tie.After-seek-position) → let a = c.before.args in
     Sought (table_of a.table.now) a.rules (get_or a.log.now a.depth 0) (position_at a.room a.work.now a.depth) c.seek-position.result
 sought c =
     let f = c.before.before in
-    rw (f.position-from.ensures, f.before.before.base_at-at.ensures) at c.seek-position.ensures
+    rw (f.position-from.ensures, f.base_at-at.ensures) at c.seek-position.ensures
 
 go-on-requires : tie.Need-go_on-requires
 go-on-requires c κs =
     let k = c.before.before.before in
-    let s = k.before.before.before.before.before.before in
+    let s = k.before in
     let p = s.requires in
-    (p.0, ((p.1.0, c.before.before.if-position-rules.true), (sought k, p.1.1)))
+    (p.0, ((p.1.0, c.if-position-rules.true), (sought k, p.1.1)))
 
 same_length : tie.Need-shape_of-out-then-position-rules
 same_length c = search rules
@@ -67,10 +67,10 @@ same-length-3 c = search rules
 returns-2 : tie.Need-returns-then-depth-eq0
 returns-2 c =
     let k = c.before.before in
-    let s = k.before.before.before.before.before.before in
+    let s = k.before in
     let a = s.args in
     let p = s.requires in
-    turn_ended a.table.now a.index.now a.rules a.room a.log.now a.out.now a.work.now a.depth p.0 p.1.0 p.1.1 k.seek-position.result (sought k) c.before.if-position-rules.false c.if-depth-eq0.true
+    turn_ended a.table.now a.index.now a.rules a.room a.log.now a.out.now a.work.now a.depth p.0 p.1.0 p.1.1 k.seek-position.result (sought k) c.if-position-rules.false c.if-depth-eq0.true
 
 sub-above : tie.Need-overflow_sub-above
 sub-above c = search rules
@@ -81,14 +81,16 @@ same-length-4 c = search rules
 returns-3 : tie.Need-returns
 returns-3 c =
     let k = c.before.before in
-    let s = k.before.before.before.before.before.before in
+    let s = k.before in
     let a = s.args in
     let p = s.requires in
     let e : a.depth ≡ suc (a.depth - 1) = omega (arith, c.if-depth-eq0.false) in
-    turn_back a.table.now a.index.now a.rules a.room a.log.now a.out.now a.work.now a.depth p.0 p.1.0 p.1.1 k.seek-position.result (sought k) c.before.if-position-rules.false (a.depth - 1) e
+    turn_back a.table.now a.index.now a.rules a.room a.log.now a.out.now a.work.now a.depth p.0 p.1.0 p.1.1 k.seek-position.result (sought k) c.if-position-rules.false (a.depth - 1) e
 
 pub turn_spec : {M : Type 1} → statement M
-turn_spec = tie.close (tie.spec
+turn_spec =
+    tie.close
+    (tie.spec
     base-at-requires
     position-requires
     mul-seek

@@ -21,16 +21,16 @@ abbrev decreases-loop : tie.decreases-loop-i
 decreases-loop table at end configuration starts₀ ends₀ i₀ j₀ starts ends i j = end - i
 
 -- a turn of the loop is a turn of the walk
-walking : (c : tie.At-loop-i invariant-loop decreases-loop) → Walking c.before.before.args.table.now c.before.before.args.end c.before.before.args.configuration.now c.loop-i.invariant.0 c.loop-i.i c.loop-i.j c.loop-i.starts c.loop-i.ends (comparison c.before.before.requires.0.left c.before.before.requires.1.term)
-walking c = let p = c.before.before.requires in c.loop-i.invariant.2 p.0.left p.1.term p.0.is p.1.is
+walking : (c : tie.At-loop-i invariant-loop decreases-loop) → Walking c.args.table.now c.args.end c.args.configuration.now c.loop-i.invariant.0 c.loop-i.i c.loop-i.j c.loop-i.starts c.loop-i.ends (comparison c.requires.0.left c.requires.1.term)
+walking c = let p = c.requires in c.loop-i.invariant.2 p.0.left p.1.term p.0.is p.1.is
 
-from : (c : tie.In-loop-i invariant-loop decreases-loop) → TurnFrom c.before.before.before.args.table.now c.before.loop-i.i c.before.before.before.args.end c.before.before.before.args.configuration.now c.before.loop-i.j c.before.loop-i.starts c.before.loop-i.ends
+from : (c : tie.In-loop-i invariant-loop decreases-loop) → TurnFrom c.args.table.now c.loop-i.i c.args.end c.args.configuration.now c.loop-i.j c.loop-i.starts c.loop-i.ends
 from c =
-    let p = c.before.before.before.requires in
-    record { before = c.loop-i-test.true; passed = c.before.loop-i.invariant.0; outcome = comparison p.0.left p.1.term; walking = walking c.before }
+    let p = c.requires in
+    record { before = c.loop-i-test.true; passed = c.loop-i.invariant.0; outcome = comparison p.0.left p.1.term; walking = walking c.before }
 
 loop-holds : tie.Need-loop-i-init invariant-loop decreases-loop
-loop-holds c = (0, omega arith, λ l g x y. begins c.before.args.starts.now x y, λ v z. refl)
+loop-holds c = (0, omega arith, λ l g x y. begins c.args.starts.now x y, λ v z. refl)
 
 turn-at-requires : tie.Need-turn_at-turn-requires invariant-loop decreases-loop
 turn-at-requires c κs = from c.before.before
@@ -42,51 +42,51 @@ enum_told : tie.Need-enum_told-1 invariant-loop decreases-loop
 enum_told c = search rules
 
 add-j : tie.Need-overflow_add-j invariant-loop decreases-loop
-add-j c = let r = room (from c.before.before.before.before.before) in search rules
+add-j c = let r = room (from c.before.before.before.before) in search rules
 
 loop-less : tie.Need-loop-i-smaller-in-Same invariant-loop decreases-loop
 loop-less c = search rules
 
 loop-again : tie.Need-loop-i-preserved-in-Same invariant-loop decreases-loop
 loop-again c =
-    let t = c.before.before in
+    let t = c.before in
     let n = t.before.before.before in
-    (n.before.loop-i.invariant.0 + 1, omega (arith, n.before.loop-i.invariant.1), λ l g x y. turn t.turn_at-turn.ensures c.enum_told-1.given.1 n.loop-i-test.true (n.before.loop-i.invariant.2 l g x y), n.before.loop-i.invariant.3)
+    (n.loop-i.invariant.0 + 1, omega (arith, n.loop-i.invariant.1), λ l g x y. turn t.turn_at-turn.ensures c.in-Same.is n.loop-i-test.true (n.loop-i.invariant.2 l g x y), n.loop-i.invariant.3)
 
 enum-known-turn : tie.Need-enum_known-turn invariant-loop decreases-loop
 enum-known-turn c = search rules
 
 -- a variable that is bound has a place in the arrays, and its part's start and end are places of the configuration
-low : (c : tie.In-Bind-2 invariant-loop decreases-loop) → (c.turn-1.given.0.0 < 16) × (0 < c.turn-1.given.0.1.0)
+low : (c : tie.In-Bind-2 invariant-loop decreases-loop) → (c.in-Bind.v < 16) × (0 < c.in-Bind.e)
 low c =
-    let n = from c.before.before.before.before.before in
-    let t = turn c.before.before.turn_at-turn.ensures c.turn-1.given.1 n.before n.walking in
+    let n = from c.before.before.before.before in
+    let t = turn c.turn_at-turn.ensures c.in-Bind.is n.before n.walking in
     (t.0, t.1)
 
-small : (c : tie.In-Bind-2 invariant-loop decreases-loop) → (c.before.before.before.before.before.before.loop-i.j < 2 ^ 32) × (c.turn-1.given.0.1.0 < 2 ^ 32)
+small : (c : tie.In-Bind-2 invariant-loop decreases-loop) → (c.loop-i.j < 2 ^ 32) × (c.in-Bind.e < 2 ^ 32)
 small c =
-    let l = c.before.before.before.before.before in
+    let l = c.before.before.before.before in
     let n = from l in
-    let t = turn c.before.before.turn_at-turn.ensures c.turn-1.given.1 n.before n.walking in
-    let h = few_words l.before.before.before.requires.1.is in
+    let t = turn c.turn_at-turn.ensures c.in-Bind.is n.before n.walking in
+    let h = few_words l.before.before.requires.1.is in
     (omega (arith, (room n).grounded), omega (arith, t.2))
 
 put-requires : tie.Need-put-requires invariant-loop decreases-loop
-put-requires c κs = let h = (low c.before.before).0 in (search rules, (small c.before.before).0)
+put-requires c κs = let h = (low c.before).0 in (search rules, (small c.before).0)
 
 put-requires-2 : tie.Need-put-requires-in-Bind invariant-loop decreases-loop
-put-requires-2 c κs = let h = (low c.before.before.before.before).0 in (search rules, (small c.before.before.before.before).1)
+put-requires-2 c κs = let h = (low c.before.before.before).0 in (search rules, (small c.before.before.before).1)
 
 loop-less-2 : tie.Need-loop-i-smaller-in-Bind invariant-loop decreases-loop
 loop-less-2 c = search rules
 
 loop-again-2 : tie.Need-loop-i-preserved-in-Bind invariant-loop decreases-loop
 loop-again-2 c =
-    let t = c.before.before.before.before.before in
-    let n = t.before.before.before.before.before in
-    let ps = c.before.before.put.ensures in
+    let t = c.before.before.before.before in
+    let n = t.before.before.before.before in
+    let ps = c.put.ensures in
     let pe = c.put-in-Bind.ensures in
-    (n.before.loop-i.invariant.0 + 1, omega (arith, n.before.loop-i.invariant.1), λ l g x y. (turn t.before.before.turn_at-turn.ensures t.turn-1.given.1 n.loop-i-test.true (n.before.loop-i.invariant.2 l g x y)).3 c.before.before.put.new.0 c.put-in-Bind.new.0 ps pe, kept n.before.before.before.args.starts.now (low t).1 ps pe n.before.loop-i.invariant.3)
+    (n.loop-i.invariant.0 + 1, omega (arith, n.loop-i.invariant.1), λ l g x y. (turn t.turn_at-turn.ensures t.in-Bind.is n.loop-i-test.true (n.loop-i.invariant.2 l g x y)).3 c.put.new.s c.put-in-Bind.new.s ps pe, kept n.before.before.args.starts.now (low t).1 ps pe n.loop-i.invariant.3)
 
 enum-known-turn-2 : tie.Need-enum_known-turn-in-Again-1 invariant-loop decreases-loop
 enum-known-turn-2 c = search rules
@@ -96,30 +96,32 @@ loop-less-3 c = search rules
 
 loop-again-3 : tie.Need-loop-i-preserved invariant-loop decreases-loop
 loop-again-3 c =
-    let t = c.before in
-    let n = t.before.before.before.before.before in
-    (n.before.loop-i.invariant.0 + 1, omega (arith, n.before.loop-i.invariant.1), λ l g x y. turn t.before.before.turn_at-turn.ensures t.turn-in-Again-1.given.1 n.loop-i-test.true (n.before.loop-i.invariant.2 l g x y), n.before.loop-i.invariant.3)
+    let t = c in
+    let n = t.before.before.before.before in
+    (n.loop-i.invariant.0 + 1, omega (arith, n.loop-i.invariant.1), λ l g x y. turn t.turn_at-turn.ensures t.in-Again.is n.loop-i-test.true (n.loop-i.invariant.2 l g x y), n.loop-i.invariant.3)
 
 enum-told-2 : tie.Need-enum_told-in-Misfit invariant-loop decreases-loop
 enum-told-2 c = search rules
 
 sub-t21 : tie.Need-overflow_sub-result invariant-loop decreases-loop
-sub-t21 c = let e = c.before.before.before.before.before.before.loop-i.invariant.1 in omega arith
+sub-t21 c = let e = c.loop-i.invariant.1 in omega arith
 
 sub-t23 : tie.Need-overflow_sub-result-2 invariant-loop decreases-loop
-sub-t23 c = let e = c.before.before.before.requires.0.is.ends in omega arith
+sub-t23 c = let e = c.requires.0.is.ends in omega arith
 
 returns : tie.Need-returns-in-Misfit invariant-loop decreases-loop
 returns c =
-    let t = c.before.before in
+    let t = c.before in
     let n = t.before.before.before in
-    record { each = λ l g x y. not_matched x y (turn t.turn_at-turn.ensures c.enum_told-in-Misfit-1.given.1 n.loop-i-test.true (n.before.loop-i.invariant.2 l g x y)) (let e = n.before.loop-i.invariant.1 in omega arith); parts = held (walking n.before); keeps = n.before.loop-i.invariant.3 }
+    record { each = λ l g x y. not_matched x y (turn t.turn_at-turn.ensures c.in-Misfit.is n.loop-i-test.true (n.loop-i.invariant.2 l g x y)) (let e = n.loop-i.invariant.1 in omega arith); parts = held (walking n.before); keeps = n.loop-i.invariant.3 }
 
 returns-2 : tie.Need-returns invariant-loop decreases-loop
-returns-2 c = record { each = λ l g x y. ends_matched x y c.loop-i-test.false (c.before.loop-i.invariant.2 l g x y) (λ e. omega arith); parts = held (walking c.before); keeps = c.before.loop-i.invariant.3 }
+returns-2 c = record { each = λ l g x y. ends_matched x y c.loop-i-test.false (c.loop-i.invariant.2 l g x y) (λ e. omega arith); parts = held (walking c.before); keeps = c.loop-i.invariant.3 }
 
 pub match_left_spec : {M : Type 1} → statement M
-match_left_spec = tie.close (tie.spec
+match_left_spec =
+    tie.close
+    (tie.spec
     invariant-loop
     decreases-loop
     loop-holds

@@ -14,16 +14,18 @@ enum-told-3 : tie.Need-enum_told-in-Applies
 enum-told-3 c = search rules
 
 returns : tie.Need-returns-in-Misfit
-returns c = sym (ap kind_of c.enum_told-1.given.1)
+returns c = sym (ap kind_of c.in-Misfit.is)
 
 returns-2 : tie.Need-returns-in-Fails
-returns-2 c = sym (ap kind_of c.enum_told-in-Fails-1.given.1)
+returns-2 c = sym (ap kind_of c.in-Fails.is)
 
 returns-3 : tie.Need-returns-in-Applies
-returns-3 c = sym (ap kind_of c.enum_told-in-Applies-1.given.1)
+returns-3 c = sym (ap kind_of c.in-Applies.is)
 
 pub kind_spec : {M : Type 1} → statement M
-kind_spec = tie.close (tie.spec
+kind_spec =
+    tie.close
+    (tie.spec
     enum_told
     enum-told-2
     enum-told-3

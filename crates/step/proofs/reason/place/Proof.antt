@@ -9,7 +9,7 @@ enum-known-verdict : tie.Need-enum_known-verdict
 enum-known-verdict c = search rules
 
 sub-result : tie.Need-overflow_sub-result
-sub-result c = (subst VerdictInRange c.before.verdict-1.given.1 c.before.before.before.requires).0
+sub-result c = (subst VerdictInRange c.in-Misfit.is c.requires).0
 
 enum-known-verdict-2 : tie.Need-enum_known-verdict-in-Fails-1
 enum-known-verdict-2 c = search rules
@@ -18,7 +18,7 @@ enum_told : tie.Need-enum_told-1
 enum_told c = search rules
 
 returns : tie.Need-returns-in-Misfit
-returns c = sym (ap place_of c.before.verdict-1.given.1)
+returns c = sym (ap place_of c.in-Misfit.is)
 
 returns-2 : tie.Need-returns-in-Fails
 returns-2 c = search rules
@@ -27,7 +27,9 @@ returns-3 : tie.Need-returns-in-Applies
 returns-3 c = search rules
 
 pub place_spec : {M : Type 1} → statement M
-place_spec = tie.close (tie.spec
+place_spec =
+    tie.close
+    (tie.spec
     enum-known-verdict
     sub-result
     enum-known-verdict-2

@@ -12,9 +12,9 @@ use Rattle.step.proofs.right.item.Statement.{statement}
 use Rattle.step.proofs.right.item.Tie as tie
 
 -- the tag is a call's
-four : (c : tie.Then-word-eq-CALL) → word c.before.before.args.table.now c.before.before.args.at ≡ pos 4
+four : (c : tie.Then-word-eq-CALL) → word c.args.table.now c.args.at ≡ pos 4
 four c =
-    let w = c.before.word in
+    let w = c.word in
     let f : SFits w64 w.result = search rules in
     sym w.ensures ∙ same_bits w.result (pos 4) f (record { sfits = lit< tt }) c.if-word-eq-CALL.true
 
@@ -34,7 +34,7 @@ returns c =
 piece-requires : tie.Need-piece-requires
 piece-requires c κs =
     let s = c.before.before in
-    record { configuration = s.args.configuration.now; end = s.args.end; before = s.requires.1; rest = s.requires.0; no_call = λ e. c.if-word-eq-CALL.false (ap (of_z w64) (c.before.word.ensures ∙ e)) }
+    record { configuration = s.args.configuration.now; end = s.args.end; before = s.requires.1; rest = s.requires.0; no_call = λ e. c.if-word-eq-CALL.false (ap (of_z w64) (c.word.ensures ∙ e)) }
 
 returns-2 : tie.Need-returns
 returns-2 c =
@@ -42,7 +42,9 @@ returns-2 c =
     record { is = λ ρ f us r. c.piece.ensures.is s.args.configuration.now s.args.end ρ f us s.requires.1 r }
 
 pub item_spec : {M : Type 1} → statement M
-item_spec = tie.close (tie.spec
+item_spec =
+    tie.close
+    (tie.spec
     word-requires
     evaluate-requires
     returns

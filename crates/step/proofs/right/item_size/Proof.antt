@@ -17,7 +17,7 @@ returns : tie.Need-returns-then-gives_one_node
 returns c =
     let o = c.before.before in
     let s = o.before in
-    call_sized s.args.table.now s.args.configuration.now s.args.starts.now s.args.ends.now s.args.at s.args.end s.requires.1 o.gives_one_node.result o.gives_one_node.ensures c.before.if-gives_one_node.true c.call_end-next.result c.call_end-next.ensures
+    call_sized s.args.table.now s.args.configuration.now s.args.starts.now s.args.ends.now s.args.at s.args.end s.requires.1 o.gives_one_node.result o.gives_one_node.ensures c.if-gives_one_node.true c.call_end-next.result c.call_end-next.ensures
 
 is-update-requires : tie.Need-is_update-requires
 is-update-requires c κs = let s = c.before.before in node_within s.requires.1 s.requires.0
@@ -43,7 +43,9 @@ returns-3 c =
     item_sized s.args.table.now s.args.configuration.now s.args.starts.now s.args.ends.now s.args.at s.args.end s.requires.1 p.item-x.result p.item-x.ensures c.size-n.result c.size-n.ensures
 
 pub item_size_spec : {M : Type 1} → statement M
-item_size_spec = tie.close (tie.spec
+item_size_spec =
+    tie.close
+    (tie.spec
     gives-one-node-requires
     call-end-requires
     returns

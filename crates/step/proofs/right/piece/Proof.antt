@@ -25,9 +25,9 @@ module _ (c : tie.After-word-v) where
 
   three : word start.args.table.now start.args.at ≡ pos 3
   three =
-      let w = c.before.before.word in
+      let w = c.word in
       let f : SFits w64 w.result = search rules in
-      sym w.ensures ∙ same_bits w.result (pos 3) f (record { sfits = lit< tt }) c.before.if-word-eq-VARIABLE.true
+      sym w.ensures ∙ same_bits w.result (pos 3) f (record { sfits = lit< tt }) c.if-word-eq-VARIABLE.true
 
   datum : to_z w64 (of_z w64 c.word-v.result) ≡ word start.args.table.now (start.args.at + 1)
   datum =
@@ -36,7 +36,7 @@ module _ (c : tie.After-word-v) where
       to_z-of_z w64 d f ∙ c.word-v.ensures
 
   low : T (non_neg (word start.args.table.now (start.args.at + 1))) × (v < 16)
-  low = variable_fits start.args.table.now start.args.starts.now start.args.ends.now start.args.at three v (ap nat_abs datum) start.pre
+  low = variable_fits start.args.table.now start.args.starts.now start.args.ends.now start.args.at three v (ap nat_abs datum) start.requires
 
 word-requires : tie.Need-word-requires
 word-requires c κs = omega (arith, piece_within c.args.table.now c.args.starts.now c.args.ends.now c.args.at c.requires)
@@ -63,7 +63,7 @@ returns : tie.Need-returns-then-word-eq-VARIABLE
 returns c =
     let w = c.before.before in
     let s = start w in
-    rw (c.before.place_of-from.ensures, c.place_of-to.ensures) (variable_is s.args.table.now s.args.starts.now s.args.ends.now s.args.at (three w) (v w) (ap nat_abs (datum w)))
+    rw (c.place_of-from.ensures, c.place_of-to.ensures) (variable_is s.args.table.now s.args.starts.now s.args.ends.now s.args.at (three w) (v w) (ap nat_abs (datum w)))
 
 add-t13 : tie.Need-overflow_add-result-2
 add-t13 c = search rules
@@ -78,7 +78,9 @@ returns-2 c =
     node_is s.args.table.now s.args.starts.now s.args.ends.now s.args.at (λ e. c.if-word-eq-VARIABLE.false (ap (of_z w64) (w.word.ensures ∙ e))) s.requires.no_call
 
 pub piece_spec : {M : Type 1} → statement M
-piece_spec = tie.close (tie.spec
+piece_spec =
+    tie.close
+    (tie.spec
     word-requires
     add-word
     word-requires-2

@@ -8,7 +8,7 @@ is-update-requires : tie.Need-is_update-requires
 is-update-requires c κs = node_within c.requires.before c.requires.rest
 
 write-update-requires : tie.Need-write_update-requires
-write-update-requires c κs = let u = c.before.before in (u.before.requires, u.is_update.ensures.yes c.before.if-is_update.true)
+write-update-requires c κs = let u = c.before.before in (u.requires, u.is_update.ensures.yes c.if-is_update.true)
 
 same_length : tie.Need-shape_of-out-then-is_update
 same_length c = search rules
@@ -17,7 +17,7 @@ returns : tie.Need-returns-then-is_update
 returns c = search rules
 
 write-value-requires : tie.Need-write_value-requires
-write-value-requires c κs = let u = c.before.before in (u.before.requires, record { not = u.is_update.ensures.no c.before.if-is_update.false })
+write-value-requires c κs = let u = c.before.before in (u.requires, record { not = u.is_update.ensures.no c.if-is_update.false })
 
 same-length-2 : tie.Need-shape_of-out
 same-length-2 c = search rules
@@ -26,7 +26,9 @@ returns-2 : tie.Need-returns
 returns-2 c = search rules
 
 pub write_item_spec : {M : Type 1} → statement M
-write_item_spec = tie.close (tie.spec
+write_item_spec =
+    tie.close
+    (tie.spec
     is-update-requires
     write-update-requires
     same_length

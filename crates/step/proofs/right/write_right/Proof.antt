@@ -20,7 +20,7 @@ write-item-requires : tie.Need-write_item-x-requires invariant-loop decreases-lo
 write-item-requires c κs =
     let l = c.before.before in
     let s = l.before in
-    let k = writing_fits s.args.table.now s.args.configuration.now s.args.starts.now s.args.ends.now s.args.at s.args.end s.args.out.now l.loop-i.i l.loop-i.o l.loop-i.out l.loop-i.invariant.1 s.requires c.before.loop-i-test.true in
+    let k = writing_fits s.args.table.now s.args.configuration.now s.args.starts.now s.args.ends.now s.args.at s.args.end s.args.out.now l.loop-i.i l.loop-i.o l.loop-i.out l.loop-i.invariant.1 s.requires c.loop-i-test.true in
     subst⁻¹ (λ (n : ℕ). FittingItem s.args.table.now s.args.configuration.now s.args.starts.now s.args.ends.now l.loop-i.i s.args.end l.loop-i.o n) l.loop-i.invariant.0 k
 
 loop-less : tie.Need-loop-i-smaller invariant-loop decreases-loop
@@ -28,17 +28,17 @@ loop-less c =
     let x = c.before.before.before in
     let l = x.before in
     let s = l.before in
-    omega (arith, x.loop-i-test.true, writing_forward s.args.table.now s.args.configuration.now s.args.starts.now s.args.ends.now s.args.at s.args.end s.args.out.now l.loop-i.i l.loop-i.o l.loop-i.out l.loop-i.invariant.1 _ _ c.before.write_item-x.ensures.item s.requires.rest)
+    omega (arith, x.loop-i-test.true, writing_forward s.args.table.now s.args.configuration.now s.args.starts.now s.args.ends.now s.args.at s.args.end s.args.out.now l.loop-i.i l.loop-i.o l.loop-i.out l.loop-i.invariant.1 _ _ c.write_item-x.ensures.item s.requires.rest)
 
 loop-again : tie.Need-loop-i-preserved invariant-loop decreases-loop
 loop-again c =
-    let w = c.before.write-item in
+    let w = c.write_item-x in
     let l = c.before.before.before.before in
     let s = l.before in
     (w.auto.1.1.1.1.1.1.0 ∙ l.loop-i.invariant.0, writing_on s.args.table.now s.args.configuration.now s.args.starts.now s.args.ends.now s.args.at s.args.end s.args.out.now l.loop-i.i l.loop-i.o l.loop-i.out l.loop-i.invariant.1 _ _ w.ensures.item w.result.place w.new.1.1.1.1.1.1.0 w.ensures.puts.leaves w.ensures.puts.next)
 
 same_length : tie.Need-shape_of-out invariant-loop decreases-loop
-same_length c = c.before.loop-i.invariant.0
+same_length c = c.loop-i.invariant.0
 
 returns : tie.Need-returns invariant-loop decreases-loop
 returns c =
@@ -47,7 +47,9 @@ returns c =
     all_written s.args.table.now s.args.configuration.now s.args.starts.now s.args.ends.now s.args.at s.args.end s.args.out.now l.loop-i.i l.loop-i.o l.loop-i.out l.loop-i.invariant.1 c.loop-i-test.false
 
 pub write_right_spec : {M : Type 1} → statement M
-write_right_spec = tie.close (tie.spec
+write_right_spec =
+    tie.close
+    (tie.spec
     invariant-loop
     decreases-loop
     loop-holds

@@ -18,9 +18,9 @@ use Rattle.step.proofs.right.write_value.Statement.{statement}
 use Rattle.step.proofs.right.write_value.Tie as tie
 
 -- the tag is a call's
-four : (c : tie.Then-tag-eq-CALL) → word c.before.before.args.table.now c.before.before.args.at ≡ pos 4
+four : (c : tie.Then-tag-eq-CALL) → word c.args.table.now c.args.at ≡ pos 4
 four c =
-    let w = c.before.word in
+    let w = c.word-tag in
     let f : SFits w64 w.result = search rules in
     sym w.ensures ∙ same_bits w.result (pos 4) f (record { sfits = lit< tt }) c.if-tag-eq-CALL.true
 
@@ -36,7 +36,7 @@ short-call-requires : tie.Need-short_call-r-requires
 short-call-requires c κs =
     let t = c.before.before in
     let s = t.before.before in
-    record { ends = _; call = call_needs s.args.table.now s.args.configuration.now s.args.starts.now s.args.ends.now s.args.at s.args.end s.requires.0.before (four t) s.requires.1 s.requires.0.rest; short = c.before.is_short_call.ensures c.if-is_short_call.true }
+    record { ends = _; call = call_needs s.args.table.now s.args.configuration.now s.args.starts.now s.args.ends.now s.args.at s.args.end s.requires.0.before (four t) s.requires.1 s.requires.0.rest; short = c.is_short_call.ensures c.if-is_short_call.true }
 
 -- what a short call gives is the item that its contract says
 short_item : (c : tie.After-given-v) → let s = c.before.before.before.before.before.before in ItemIs s.args.table.now s.args.configuration.now s.args.starts.now s.args.ends.now s.args.at s.args.end (record { value = c.given-v.result; next = s.args.at + 6 })
@@ -44,7 +44,7 @@ short_item c =
     let t = c.before.before.before.before in
     let s = t.before.before in
     subst⁻¹ (λ (v : Value). ItemIs s.args.table.now s.args.configuration.now s.args.starts.now s.args.ends.now s.args.at s.args.end (record { value = v; next = s.args.at + 6 })) c.given-v.ensures
-    (evaluated_is s.args.table.now s.args.configuration.now s.args.starts.now s.args.ends.now s.args.at s.args.end s.requires.0.before (four t) s.requires.1 _ (c.before.short_call-r.ensures.over s.args.ends.now))
+    (evaluated_is s.args.table.now s.args.configuration.now s.args.starts.now s.args.ends.now s.args.at s.args.end s.requires.0.before (four t) s.requires.1 _ (c.short_call-r.ensures.over s.args.ends.now))
 
 given-requires : tie.Need-given-v-requires
 given-requires c κs = tt
@@ -69,10 +69,10 @@ returns : tie.Need-returns-then-is_short_call
 returns c =
     let d = c.before.before.before in
     let s = d.before.before.before.before.before.before in
-    record { words = _; item = item_words s.args.table.now s.args.configuration.now s.args.starts.now s.args.ends.now s.args.at s.args.end s.requires.0.before _ (short_item d); puts = c.before.put-e.ensures }
+    record { words = _; item = item_words s.args.table.now s.args.configuration.now s.args.starts.now s.args.ends.now s.args.at s.args.end s.requires.0.before _ (short_item d); puts = c.put-e.ensures }
 
 -- a node that is neither a call nor a variable: its two words
-node_fits : (c : tie.After-word-datum) → SFits w64 c.before.before.before.word-tag.result × SFits w64 c.word-datum.result
+node_fits : (c : tie.After-word-datum) → SFits w64 c.word-tag.result × SFits w64 c.word-datum.result
 node_fits c = (search rules, search rules)
 
 node_item : (c : tie.After-word-datum) → let w = c.before.before.before in let s = w.before in ItemIs s.args.table.now s.args.configuration.now s.args.starts.now s.args.ends.now s.args.at s.args.end (record { value = Computed (to_z w64 (of_z w64 w.word-tag.result)) (to_z w64 (of_z w64 c.word-datum.result)); next = s.args.at + 2 })
@@ -81,7 +81,7 @@ node_item c =
     let w = e.before in
     let s = w.before in
     let (f, g) = node_fits c in
-    node_words s.args.table.now s.args.configuration.now s.args.starts.now s.args.ends.now s.args.at s.args.end s.requires.0.before (λ p. c.before.if-tag-ne-VARIABLE.true (ap (of_z w64) (w.word-tag.ensures ∙ p))) (λ p. e.if-tag-eq-CALL.false (ap (of_z w64) (w.word-tag.ensures ∙ p))) _ _ (to_z-of_z f ∙ w.word-tag.ensures) (to_z-of_z g ∙ c.word-datum.ensures)
+    node_words s.args.table.now s.args.configuration.now s.args.starts.now s.args.ends.now s.args.at s.args.end s.requires.0.before (λ p. c.if-tag-ne-VARIABLE.true (ap (of_z w64) (w.word-tag.ensures ∙ p))) (λ p. e.if-tag-eq-CALL.false (ap (of_z w64) (w.word-tag.ensures ∙ p))) _ _ (to_z-of_z f ∙ w.word-tag.ensures) (to_z-of_z g ∙ c.word-datum.ensures)
 
 add-word : tie.Need-overflow_add-at
 add-word c = let s = c.before.before.before in omega (arith, node_within s.requires.0.before s.requires.0.rest)
@@ -105,7 +105,7 @@ returns-2 : tie.Need-returns-then-tag-ne-VARIABLE
 returns-2 c =
     let d = c.before.before.before in
     let s = d.before.before.before.before in
-    record { words = _; item = item_words s.args.table.now s.args.configuration.now s.args.starts.now s.args.ends.now s.args.at s.args.end s.requires.0.before _ (node_item d); puts = c.before.put-e-then-tag-ne-VARIABLE.ensures }
+    record { words = _; item = item_words s.args.table.now s.args.configuration.now s.args.starts.now s.args.ends.now s.args.at s.args.end s.requires.0.before _ (node_item d); puts = c.put-e-then-tag-ne-VARIABLE.ensures }
 
 item-requires : tie.Need-item-x-requires
 item-requires c κs = let s = c.before.before in (s.requires.0.rest, s.requires.0.before, s.requires.1)
@@ -123,10 +123,12 @@ returns-3 : tie.Need-returns
 returns-3 c =
     let x = c.before.before.before in
     let s = x.before.before.before in
-    record { words = _; item = item_words s.args.table.now s.args.configuration.now s.args.starts.now s.args.ends.now s.args.at s.args.end s.requires.0.before x.item-x.result x.item-x.ensures; puts = c.before.put-e-2.ensures }
+    record { words = _; item = item_words s.args.table.now s.args.configuration.now s.args.starts.now s.args.ends.now s.args.at s.args.end s.requires.0.before x.item-x.result x.item-x.ensures; puts = c.put-e-2.ensures }
 
 pub write_value_spec : {M : Type 1} → statement M
-write_value_spec = tie.close (tie.spec
+write_value_spec =
+    tie.close
+    (tie.spec
     word-requires
     is-short-call-requires
     short-call-requires

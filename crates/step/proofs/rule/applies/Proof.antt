@@ -16,16 +16,18 @@ enum-told-3 : tie.Need-enum_told-in-Fails
 enum-told-3 c = search rules
 
 returns : tie.Need-returns-in-Applies
-returns c = record { yes = λ e. c.enum_told-1.given.1; no = λ e. absurd (true≢false e) }
+returns c = record { yes = λ e. c.in-Applies.is; no = λ e. absurd (true≢false e) }
 
 returns-2 : tie.Need-returns-in-Misfit
-returns-2 c = record { yes = λ e. absurd (true≢false (sym e)); no = λ e s. let z : ◌≡◌ {A = ℕ} 0 1 = cc c.enum_told-in-Misfit-1.given.1 in omega arith }
+returns-2 c = record { yes = λ e. absurd (true≢false (sym e)); no = λ e s. let z : ◌≡◌ {A = ℕ} 0 1 = cc c.in-Misfit.is in omega arith }
 
 returns-3 : tie.Need-returns-in-Fails
-returns-3 c = record { yes = λ e. absurd (true≢false (sym e)); no = λ e s. let z : ◌≡◌ {A = ℕ} 0 1 = cc c.enum_told-in-Fails-1.given.1 in omega arith }
+returns-3 c = record { yes = λ e. absurd (true≢false (sym e)); no = λ e s. let z : ◌≡◌ {A = ℕ} 0 1 = cc c.in-Fails.is in omega arith }
 
 pub applies_spec : {M : Type 1} → statement M
-applies_spec = tie.close (tie.spec
+applies_spec =
+    tie.close
+    (tie.spec
     enum_told
     enum-told-2
     enum-told-3

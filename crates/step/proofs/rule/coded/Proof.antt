@@ -17,13 +17,15 @@ returns : tie.Need-returns-in-Misfit
 returns c = search rules
 
 returns-2 : tie.Need-returns-in-Fails
-returns-2 c = sym (ap code c.before.verdict-in-Fails-1.given.1)
+returns-2 c = sym (ap code c.in-Fails.is)
 
 returns-3 : tie.Need-returns-in-Applies
 returns-3 c = search rules
 
 pub coded_spec : {M : Type 1} → statement M
-coded_spec = tie.close (tie.spec
+coded_spec =
+    tie.close
+    (tie.spec
     enum-known-verdict
     enum-known-verdict-2
     enum_told

@@ -17,10 +17,12 @@ returns c =
     let l = c.before.before.before in
     let s = l.before in
     let p = l.left-left.result in
-    match_is s.args.table.now s.args.rule p.from p.to l.left-left.ensures s.args.configuration.now s.args.starts.now c.match_left.last.1.1.1.1.0 c.match_left.last.1.1.1.1.1.0 c.match_left.result c.match_left.ensures
+    match_is s.args.table.now s.args.rule p.from p.to l.left-left.ensures s.args.configuration.now s.args.starts.now c.match_left.new.starts c.match_left.new.ends c.match_left.result c.match_left.ensures
 
 pub compare_left_spec : {M : Type 1} → statement M
-compare_left_spec = tie.close (tie.spec
+compare_left_spec =
+    tie.close
+    (tie.spec
     left-requires
     match-left-requires
     returns)

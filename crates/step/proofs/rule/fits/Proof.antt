@@ -64,7 +64,9 @@ returns-2 c =
     measured_is s.args.table.now s.args.rule s.args.configuration.now s.args.starts.now s.args.ends.now p.from p.to y.right-right.ensures s.args.room c.measure_right.result c.measure_right.ensures
 
 pub fits_spec : {M : Type 1} → statement M
-fits_spec = tie.close (tie.spec
+fits_spec =
+    tie.close
+    (tie.spec
     sizes-requires
     right-requires
     sub-greater

@@ -17,14 +17,14 @@ module _ (m : tie.After-compare_left) where
   start = m.before.before.before
 
   abbrev starts : List ℕ
-  starts = m.compare_left.last.1.1.1.1.0
+  starts = m.compare_left.new.starts
 
   abbrev ends : List ℕ
-  ends = m.compare_left.last.1.1.1.1.1.0
+  ends = m.compare_left.new.ends
 
   matched : (k : ℕ) → m.compare_left.result ≡ All k → SomeMatched start.args.table.now start.args.configuration.now start.args.rule starts ends
   matched k e =
-      some_matched start.args.table.now start.args.configuration.now start.args.rule starts ends m.compare_left.result m.compare_left.ensures k e start.pre.2 start.pre.1
+      some_matched start.args.table.now start.args.configuration.now start.args.rule starts ends m.compare_left.result m.compare_left.ensures k e start.requires.2 start.requires.1
 
   by_conditions : (k : ℕ) → m.compare_left.result ≡ All k → (q : HowFar) → HoldIs start.args.table.now start.args.configuration.now start.args.rule starts ends q → (r : Verdict) → r ≡ verdict_held q → JudgeIs start.args.table.now start.args.configuration.now start.args.rule starts ends r
   by_conditions k e =
@@ -40,7 +40,7 @@ enum_told : tie.Need-enum_told-1
 enum_told c = search rules
 
 hold-conditions-requires : tie.Need-hold_conditions-requires
-hold-conditions-requires c κs = let t = c.before.before in let m = t.before.before in ((start m).requires.0, matched m t.enum_told-1.given.0.0 t.enum_told-1.given.1)
+hold-conditions-requires c κs = let t = c.before in let m = t.before.before in ((start m).requires.0, matched m t.in-All.field-0 t.in-All.is)
 
 enum-known-number : tie.Need-enum_known-number
 enum-known-number c = search rules
@@ -50,26 +50,28 @@ enum-told-2 c = search rules
 
 returns : tie.Need-returns-in-Until
 returns c =
-    let p = c.before in
-    let m = p.before.before in
+    let p = c in
+    let m = p.before in
     let s = start m in
-    way_misfit s.args.table.now s.args.configuration.now s.args.rule (starts m) (ends m) m.compare_left.result m.compare_left.ensures p.count-1.given.0.0 p.count-1.given.1
+    way_misfit s.args.table.now s.args.configuration.now s.args.rule (starts m) (ends m) m.compare_left.result m.compare_left.ensures p.in-Until.count p.in-Until.is
 
 returns-2 : tie.Need-returns-in-Until-hold_conditions
 returns-2 c =
-    let k = c.before in
-    let h = k.before.before in
-    let t = h.before.before.before in
-    by_conditions t.before.before t.enum_told-1.given.0.0 t.enum_told-1.given.1 h.hold_conditions.result h.hold_conditions.ensures _ (sym (ap verdict_held k.number-1.given.1))
+    let k = c in
+    let h = k.before in
+    let t = h.before.before in
+    by_conditions t.before.before t.in-All.field-0 t.in-All.is h.hold_conditions.result h.hold_conditions.ensures _ (sym (ap verdict_held k.in-Until-hold_conditions.is))
 
 returns-3 : tie.Need-returns-in-All-hold_conditions
 returns-3 c =
-    let h = c.before.before in
-    let t = h.before.before.before in
-    by_conditions t.before.before t.enum_told-1.given.0.0 t.enum_told-1.given.1 h.hold_conditions.result h.hold_conditions.ensures _ (sym (ap verdict_held c.enum_told-in-All-hold_conditions-1.given.1))
+    let h = c.before in
+    let t = h.before.before in
+    by_conditions t.before.before t.in-All.field-0 t.in-All.is h.hold_conditions.result h.hold_conditions.ensures _ (sym (ap verdict_held c.in-All-hold_conditions.is))
 
 pub judge_spec : {M : Type 1} → statement M
-judge_spec = tie.close (tie.spec
+judge_spec =
+    tie.close
+    (tie.spec
     compare-left-requires
     enum-known-count
     enum_told

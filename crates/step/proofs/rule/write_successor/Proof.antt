@@ -23,10 +23,12 @@ returns c =
     let k = w.before.before in
     let s = k.before in
     let p = k.right-right.result in
-    write_is s.args.table.now s.args.rule s.args.configuration.now s.args.starts.now s.args.ends.now p.from p.to k.right-right.ensures s.args.out.now w.write_right.new.1.1.1.1.1.1.0 w.write_right.result w.write_right.ensures
+    write_is s.args.table.now s.args.rule s.args.configuration.now s.args.starts.now s.args.ends.now p.from p.to k.right-right.ensures s.args.out.now w.write_right.new.out w.write_right.result w.write_right.ensures
 
 pub write_successor_spec : {M : Type 1} → statement M
-write_successor_spec = tie.close (tie.spec
+write_successor_spec =
+    tie.close
+    (tie.spec
     right-requires
     write-right-requires
     same_length

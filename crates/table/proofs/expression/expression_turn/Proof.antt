@@ -15,8 +15,8 @@ use Rattle.table.proofs.expression.expression_turn.Statement.{statement}
 use Rattle.table.proofs.expression.expression_turn.Tie as tie
 
 -- the node that stands there
-stands : (c : tie.After-node_at) (n : Node) → c.node_at.result ≡ n → FoundAt c.before.args.table.now c.before.args.i n
-stands c n e = subst (FoundAt c.before.args.table.now c.before.args.i) e c.node_at.ensures
+stands : (c : tie.After-node_at) (n : Node) → c.node_at.result ≡ n → FoundAt c.args.table.now c.args.i n
+stands c n e = subst (FoundAt c.args.table.now c.args.i) e c.node_at.ensures
 
 node-at-requires : tie.Need-node_at-requires
 node-at-requires c κs = search rules
@@ -29,9 +29,9 @@ add-ground-terms c = search rules
 
 ground-terms-requires : tie.Need-ground_terms-requires
 ground-terms-requires c κs =
-    let u = c.before.before.before in
-    let h = stands u (N.Plain c.before.k-1.given.0.0) c.before.k-1.given.1 in
-    (h.room, plain_few h u.before.args.seen.now, u.before.requires.1)
+    let u = c.before in
+    let h = stands u (N.Plain c.in-Plain.k) c.in-Plain.is in
+    (h.room, plain_few h u.args.seen.now, u.requires.1)
 
 enum-known-e : tie.Need-enum_known-e
 enum-known-e c = search rules
@@ -41,9 +41,9 @@ enum_told c = search rules
 
 returns : tie.Need-returns-in_default
 returns c =
-    let v = c.before.before.before in
-    let u = v.before.before.before in
-    plain_stops (stands u (N.Plain v.before.k-1.given.0.0) v.before.k-1.given.1) u.before.args.seen.now c.before.before.ground_terms.ensures c.enum_told-1.given.1
+    let v = c.before.before in
+    let u = v.before in
+    plain_stops (stands u (N.Plain v.in-Plain.k) v.in-Plain.is) u.args.seen.now c.ground_terms.ensures c.in_default.is
 
 enum-known-k-2 : tie.Need-enum_known-k-in-Literal-1
 enum-known-k-2 c = search rules
@@ -53,9 +53,9 @@ add-ground-terms-2 c = search rules
 
 ground-terms-requires-2 : tie.Need-ground_terms-requires-in-Literal
 ground-terms-requires-2 c κs =
-    let u = c.before.before.before in
-    let h = stands u (N.Literal c.before.k-in-Literal-1.given.0.0) c.before.k-in-Literal-1.given.1 in
-    (h.room, literal_few h, u.before.requires.1)
+    let u = c.before in
+    let h = stands u (N.Literal c.in-Literal.k) c.in-Literal.is in
+    (h.room, literal_few h, u.requires.1)
 
 enum-known-e-2 : tie.Need-enum_known-e-in-At-ground_terms-2
 enum-known-e-2 c = search rules
@@ -65,20 +65,20 @@ enum-told-2 c = search rules
 
 returns-2 : tie.Need-returns-in_default-ground_terms
 returns-2 c =
-    let v = c.before.before.before in
-    let u = v.before.before.before in
-    (literal_stops (stands u (N.Literal v.before.k-in-Literal-1.given.0.0) v.before.k-in-Literal-1.given.1) c.before.before.ground_terms-in-Literal.ensures c.enum_told-in_default-ground_terms-1.given.1).at Expression u.before.args.seen.now
+    let v = c.before.before in
+    let u = v.before in
+    (literal_stops (stands u (N.Literal v.in-Literal.k) v.in-Literal.is) c.ground_terms-in-Literal.ensures c.in_default-ground_terms.is).at Expression u.args.seen.now
 
 enum-known-k-3 : tie.Need-enum_known-k-in-Call-1
 enum-known-k-3 c = search rules
 
 returns-3 : tie.Need-returns-then-c-eq-UPDATE
 returns-3 c =
-    let v = c.before.before in
-    let u = v.before.before in
-    let k = v.k-in-Call-1.given.0.0 in
-    let f = v.k-in-Call-1.given.0.1.0 in
-    turn_refused (stands u (N.Call k f) v.k-in-Call-1.given.1) Expression u.before.args.seen.now (ap (λ (b : Bool). cond b (B.Are Expression k) B.Bad) (no_update f c.if-c-eq-UPDATE.true))
+    let v = c.before in
+    let u = v.before in
+    let k = v.in-Call.k in
+    let f = v.in-Call.c in
+    turn_refused (stands u (N.Call k f) v.in-Call.is) Expression u.args.seen.now (ap (λ (b : Bool). cond b (B.Are Expression k) B.Bad) (no_update f c.if-c-eq-UPDATE.true))
 
 add-t20 : tie.Need-overflow_add-result
 add-t20 c = search rules
@@ -87,7 +87,7 @@ enum-known-v : tie.Need-enum_known-v
 enum-known-v c = search rules
 
 element-copy-out-if2 : tie.Need-bounds-seen-v
-element-copy-out-if2 c = number_small (stands c.before.before.before (N.Variable c.before.v-1.given.0.0) c.before.v-1.given.1)
+element-copy-out-if2 c = number_small (stands c.before (N.Variable c.in-Variable.v) c.in-Variable.is)
 
 add-t26 : tie.Need-overflow_add-result-then-seen-v
 add-t26 c = search rules
@@ -97,42 +97,44 @@ enum-told-3 c = search rules
 
 returns-4 : tie.Need-returns-in-At
 returns-4 c =
-    let v = c.before.before.before.before in
-    let u = v.before.before.before in
-    let g = c.before.e-1.given in
-    plain_on (stands u (N.Plain v.before.k-1.given.0.0) v.before.k-1.given.1) u.before.args.seen.now c.before.before.before.ground_terms.ensures g.0.0 g.0.1.0 g.1
+    let v = c.before.before in
+    let u = v.before in
+    let g = c.e-1.given in
+    plain_on (stands u (N.Plain v.in-Plain.k) v.in-Plain.is) u.args.seen.now c.ground_terms.ensures g.0.0 g.0.1.0 g.1
 
 returns-5 : tie.Need-returns-in-At-ground_terms
 returns-5 c =
-    let v = c.before.before.before.before in
-    let u = v.before.before.before in
-    let g = c.before.e-in-At-ground_terms-2-1.given in
-    let t = (literal_on (stands u (N.Literal v.before.k-in-Literal-1.given.0.0) v.before.k-in-Literal-1.given.1) c.before.before.before.ground_terms-in-Literal.ensures g.0.0 g.0.1.0 g.1).at Expression u.before.args.seen.now in
+    let v = c.before.before in
+    let u = v.before in
+    let g = c.e-in-At-ground_terms-2-1.given in
+    let t = (literal_on (stands u (N.Literal v.in-Literal.k) v.in-Literal.is) c.ground_terms-in-Literal.ensures g.0.0 g.0.1.0 g.1).at Expression u.args.seen.now in
     record { turn = t.turn; order = t.order }
 
 returns-6 : tie.Need-returns-else-c-eq-UPDATE
 returns-6 c =
-    let v = c.before.before in
-    let u = v.before.before in
-    argument_on (stands u (N.Call v.k-in-Call-1.given.0.0 v.k-in-Call-1.given.0.1.0) v.k-in-Call-1.given.1) u.before.args.seen.now c.if-c-eq-UPDATE.false
+    let v = c.before in
+    let u = v.before in
+    argument_on (stands u (N.Call v.in-Call.k v.in-Call.c) v.in-Call.is) u.args.seen.now c.if-c-eq-UPDATE.false
 
 returns-7 : tie.Need-returns-then-seen-v
 returns-7 c =
     let v = c.before.before.before in
-    let u = v.before.before in
-    flagged_on (stands u (N.Variable v.v-1.given.0.0) v.v-1.given.1) u.before.args.seen.now c.if-seen-v.true
+    let u = v in
+    flagged_on (stands u (N.Variable v.in-Variable.v) v.in-Variable.is) u.args.seen.now c.if-seen-v.true
 
 returns-8 : tie.Need-returns-else-seen-v
 returns-8 c =
     let v = c.before.before.before in
-    let u = v.before.before in
-    turn_refused (stands u (N.Variable v.v-1.given.0.0) v.v-1.given.1) Expression u.before.args.seen.now (ap (λ (b : Bool). cond b (B.Are Expression 0) B.Bad) c.if-seen-v.false)
+    let u = v in
+    turn_refused (stands u (N.Variable v.in-Variable.v) v.in-Variable.is) Expression u.args.seen.now (ap (λ (b : Bool). cond b (B.Are Expression 0) B.Bad) c.if-seen-v.false)
 
 returns-9 : tie.Need-returns-in-Bad
-returns-9 c = let u = c.before.before in turn_none (stands u N.Bad c.enum_told-in-Bad-1.given.1) Expression u.before.args.seen.now
+returns-9 c = let u = c.before in turn_none (stands u N.Bad c.in-Bad.is) Expression u.args.seen.now
 
 pub expression_turn_spec : {M : Type 1} → statement M
-expression_turn_spec = tie.close (tie.spec
+expression_turn_spec =
+    tie.close
+    (tie.spec
     node-at-requires
     enum-known-k
     add-ground-terms

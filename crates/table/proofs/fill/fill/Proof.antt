@@ -24,14 +24,14 @@ abbrev decreases-loop : tie.decreases-loop-rule
 decreases-loop table index₀ ranges n count at₀ rule₀ index at rule = count - rule
 
 -- the first word's number
-count_is : (c : tie.After-natural-count invariant-loop decreases-loop) → c.natural-count.result ≡ natural_of (get_or c.before.before.before.before.before.args.table.now 0 (pos 0))
-count_is c = let f : SFits w64 c.before.word.result = search rules in via natural_of f c.natural-count.ensures ∙ ap natural_of c.before.word.ensures
+count_is : (c : tie.After-natural-count invariant-loop decreases-loop) → c.natural-count.result ≡ natural_of (get_or c.args.table.now 0 (pos 0))
+count_is c = let f : SFits w64 c.word.result = search rules in via natural_of f c.natural-count.ensures ∙ ap natural_of c.word.ensures
 
 returns : tie.Need-returns-then-n-eq0 invariant-loop decreases-loop
-returns c = refused_empty c.before.before.args.table.now c.before.before.args.index.now c.if-n-eq0.true
+returns c = refused_empty c.args.table.now c.args.index.now c.if-n-eq0.true
 
 returns-2 : tie.Need-returns-then-n-gt-MAX_TABLE_WORDS invariant-loop decreases-loop
-returns-2 c = refused_long c.before.before.before.args.table.now c.before.before.before.args.index.now c.if-n-gt-MAX_TABLE_WORDS.true
+returns-2 c = refused_long c.args.table.now c.args.index.now c.if-n-gt-MAX_TABLE_WORDS.true
 
 word-requires : tie.Need-word-requires invariant-loop decreases-loop
 word-requires c κs = search rules
@@ -42,14 +42,14 @@ natural-requires c κs = search rules
 returns-3 : tie.Need-returns-then-count-gt-MAX_RULES invariant-loop decreases-loop
 returns-3 c =
     let p = count_is c.before in
-    refused_count c.before.before.before.before.before.before.args.table.now c.before.before.before.before.before.before.args.index.now (omega arith)
+    refused_count c.args.table.now c.args.index.now (omega arith)
 
 loop-holds : tie.Need-loop-rule-init invariant-loop decreases-loop
 loop-holds c =
     let p = count_is c.before in
-    let ws = c.before.before.before.before.before.before.args.table.now in
-    let old = c.before.before.before.before.before.before.args.index.now in
-    (refl, subst⁻¹ (λ (k : ℕ). Reached ws old old k 0 1) p (starts ws old (omega arith) (omega arith) (omega arith) c.before.before.before.before.before.before.requires.0))
+    let ws = c.args.table.now in
+    let old = c.args.index.now in
+    (refl, subst⁻¹ (λ (k : ℕ). Reached ws old old k 0 1) p (starts ws old (omega arith) (omega arith) (omega arith) c.requires.0))
 
 rule-parts-requires : tie.Need-rule_parts-requires invariant-loop decreases-loop
 rule-parts-requires c κs = search rules
@@ -61,25 +61,25 @@ enum_told : tie.Need-enum_told-1 invariant-loop decreases-loop
 enum_told c = search rules
 
 same_length : tie.Need-shape_of-index-in_default invariant-loop decreases-loop
-same_length c = c.before.before.before.before.loop-rule.invariant.0
+same_length c = c.loop-rule.invariant.0
 
 returns-4 : tie.Need-returns-in_default invariant-loop decreases-loop
 returns-4 c =
-    let l = c.before.before.before.before.loop-rule in
-    let ws = c.before.before.before.before.before.before.before.before.before.before.before.args.table.now in
-    refused_rule ws c.before.before.before.before.before.before.before.before.before.before.before.args.index.now l.index c.before.before.before.before.before.before.natural-count.result l.rule l.at l.invariant.1 c.before.before.before.loop-rule-test.true
-    (subst (RuleIs ws l.at) c.enum_told-1.given.1 c.before.before.rule_parts.ensures)
+    let l = c.loop-rule in
+    let ws = c.args.table.now in
+    refused_rule ws c.args.index.now l.index c.natural-count.result l.rule l.at l.invariant.1 c.loop-rule-test.true
+    (subst (RuleIs ws l.at) c.in_default.is c.rule_parts.ensures)
 
 put-requires : tie.Need-put-requires invariant-loop decreases-loop
 put-requires c κs =
-    let l = c.before.before.before.before.before.before.loop-rule in
+    let l = c.loop-rule in
     let r = l.invariant.1 in
     let a = r.long in
     let b = r.few in
-    let h = c.before.before.before.before.before.loop-rule-test.true in
-    let t = c.before.before.right in
-    let ws = c.before.before.before.before.before.before.before.before.before.before.before.before.before.args.table.now in
-    (omega arith, row_fits ws l.at t.given.0.0 t.given.0.1.0 t.given.0.1.1.0 t.given.0.1.1.1.0 t.given.0.1.1.1.1.0 (subst (RuleIs ws l.at) t.given.1 c.before.before.before.before.rule_parts.ensures) r.short)
+    let h = c.loop-rule-test.true in
+    let t = c.right-1 in
+    let ws = c.args.table.now in
+    (omega arith, row_fits ws l.at t.given.0.0 t.given.0.1.0 t.given.0.1.1.0 t.given.0.1.1.1.0 t.given.0.1.1.1.1.0 (subst (RuleIs ws l.at) t.given.1 c.rule_parts.ensures) r.short)
 
 add-rule : tie.Need-overflow_add-rule invariant-loop decreases-loop
 add-rule c = search rules
@@ -89,39 +89,41 @@ loop-less c = search rules
 
 loop-again : tie.Need-loop-rule-preserved invariant-loop decreases-loop
 loop-again c =
-    let l = c.before.before.before.before.before.before.before.before.before.loop-rule in
-    let ws = c.before.before.before.before.before.before.before.before.before.before.before.before.before.before.before.before.args.table.now in
-    let old = c.before.before.before.before.before.before.before.before.before.before.before.before.before.before.before.before.args.index.now in
-    let right = c.before.before.before.before.before.right-1.given.0.0 in
-    let conditions = c.before.before.before.before.before.right-1.given.0.1.0 in
-    let end = c.before.before.before.before.before.right-1.given.0.1.1.0 in
-    let fixed = c.before.before.before.before.before.right-1.given.0.1.1.1.0 in
-    let leaves = c.before.before.before.before.before.right-1.given.0.1.1.1.1.0 in
-    let count = c.before.before.before.before.before.before.before.before.before.before.before.natural-count.result in
-    let e = c.before.before.put.ensures in (
+    let l = c.loop-rule in
+    let ws = c.args.table.now in
+    let old = c.args.index.now in
+    let right = c.in-At.right in
+    let conditions = c.in-At.conditions in
+    let end = c.in-At.end in
+    let fixed = c.in-At.fixed in
+    let leaves = c.in-At.leaves in
+    let count = c.natural-count.result in
+    let e = c.put.ensures in (
       ap length e ∙ (length-sets l.index (per_rule * l.rule) (row_of ws l.at right conditions end fixed leaves) ∙ l.invariant.0),
       subst⁻¹ (λ (x : List ℕ). Reached ws old x count (l.rule + 1) end) e
-          (goes_on ws old l.index count l.rule l.at l.invariant.1 c.before.before.before.before.before.before.before.before.loop-rule-test.true right conditions end fixed leaves (subst (RuleIs ws l.at) c.before.before.before.before.before.right-1.given.1 c.before.before.before.before.before.before.before.rule_parts.ensures)),
+          (goes_on ws old l.index count l.rule l.at l.invariant.1 c.loop-rule-test.true right conditions end fixed leaves (subst (RuleIs ws l.at) c.in-At.is c.rule_parts.ensures)),
     )
 
 same-length-2 : tie.Need-shape_of-index-then-at-n invariant-loop decreases-loop
-same-length-2 c = c.before.before.loop-rule.invariant.0
+same-length-2 c = c.loop-rule.invariant.0
 
 returns-5 : tie.Need-returns-then-at-n invariant-loop decreases-loop
 returns-5 c =
-    let l = c.before.before.loop-rule in
-    refused_rest c.before.before.before.before.before.before.before.before.before.args.table.now c.before.before.before.before.before.before.before.before.before.args.index.now l.index c.before.before.before.before.natural-count.result l.rule l.at l.invariant.1 c.before.loop-rule-test.false c.if-at-n.true
+    let l = c.loop-rule in
+    refused_rest c.args.table.now c.args.index.now l.index c.natural-count.result l.rule l.at l.invariant.1 c.loop-rule-test.false c.if-at-n.true
 
 same-length-3 : tie.Need-shape_of-index invariant-loop decreases-loop
-same-length-3 c = c.before.before.loop-rule.invariant.0
+same-length-3 c = c.loop-rule.invariant.0
 
 returns-6 : tie.Need-returns invariant-loop decreases-loop
 returns-6 c =
-    let l = c.before.before.loop-rule in
-    accepted c.before.before.before.before.before.before.before.before.before.args.table.now c.before.before.before.before.before.before.before.before.before.args.index.now l.index c.before.before.before.before.natural-count.result l.rule l.at l.invariant.1 c.before.loop-rule-test.false c.if-at-n.false
+    let l = c.loop-rule in
+    accepted c.args.table.now c.args.index.now l.index c.natural-count.result l.rule l.at l.invariant.1 c.loop-rule-test.false c.if-at-n.false
 
 pub fill_spec : {M : Type 1} → statement M
-fill_spec = tie.close (tie.spec
+fill_spec =
+    tie.close
+    (tie.spec
     invariant-loop
     decreases-loop
     returns

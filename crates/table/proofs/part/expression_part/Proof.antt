@@ -20,15 +20,17 @@ mixed-part-requires c κs = search rules
 
 returns : tie.Need-returns-in-At
 returns c =
-    let u = c.before.before.before in
-    let a = u.before.args in
-    sym (ap placed (subst (PlainPartIs a.table.now a.at a.seen.now) c.before.e-1.given.1 u.plain_part.ensures))
+    let u = c.before in
+    let a = u.args in
+    sym (ap placed (subst (PlainPartIs a.table.now a.at a.seen.now) c.in-At.is u.plain_part.ensures))
 
 returns-2 : tie.Need-returns-in-Nowhere
 returns-2 c = search rules
 
 pub expression_part_spec : {M : Type 1} → statement M
-expression_part_spec = tie.close (tie.spec
+expression_part_spec =
+    tie.close
+    (tie.spec
     plain-part-requires
     enum-known-e
     enum_told

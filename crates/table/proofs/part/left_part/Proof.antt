@@ -23,18 +23,20 @@ mixed-side-part-requires c κs = search rules
 
 returns : tie.Need-returns-in-At
 returns c =
-    let u = c.before.before.before in
-    let a = u.before.before.args in
-    subst (PlainSidePartIs a.table.now a.at Left a.seen.now u.plain_side_part.new.1.1.1.0) c.before.e-1.given.1 u.plain_side_part.ensures
+    let u = c.before in
+    let a = u.args in
+    subst (PlainSidePartIs a.table.now a.at Left a.seen.now u.plain_side_part.new.seen) c.in-At.is u.plain_side_part.ensures
 
 returns-2 : tie.Need-returns-in-Nowhere
 returns-2 c =
-    let s = c.before.before.before.before.before.before.before in
+    let s = c.before.before.before.before.before.before in
     let a = s.args in
-    subst⁻¹ (λ (x : List Bool). SidePartContract a.table.now a.at Left x c.mixed_side_part.new.1.1.1.0 c.mixed_side_part.result) s.requires.0 c.mixed_side_part.ensures
+    subst⁻¹ (λ (x : List Bool). SidePartContract a.table.now a.at Left x c.mixed_side_part.new.seen c.mixed_side_part.result) s.requires.0 c.mixed_side_part.ensures
 
 pub left_part_spec : {M : Type 1} → statement M
-left_part_spec = tie.close (tie.spec
+left_part_spec =
+    tie.close
+    (tie.spec
     plain-side-part-requires
     enum-known-e
     enum_told

@@ -23,20 +23,22 @@ mixed-side-part-requires c κs = search rules
 
 returns : tie.Need-returns-in-At
 returns c =
-    let u = c.before.before.before in
-    let a = u.before.before.args in
-    subst (PlainSidePartIs a.table.now a.at Right a.seen.now u.plain_side_part.new.1.1.1.0) c.before.e-1.given.1 u.plain_side_part.ensures
+    let u = c.before in
+    let a = u.args in
+    subst (PlainSidePartIs a.table.now a.at Right a.seen.now u.plain_side_part.new.seen) c.in-At.is u.plain_side_part.ensures
 
 returns-2 : tie.Need-returns-in-Nowhere
 returns-2 c =
-    let u = c.before.before.before.before in
-    let a = u.before.before.args in
-    let s = u.plain_side_part.new.1.1.1.0 in
-    let kept : s ≡ a.seen.now = subst (PlainSidePartIs a.table.now a.at Right a.seen.now s) c.before.before.enum_told-1.given.1 u.plain_side_part.ensures in
-    subst (λ (x : List Bool). SidePartContract a.table.now a.at Right x c.mixed_side_part.new.1.1.1.0 c.mixed_side_part.result) kept c.mixed_side_part.ensures
+    let u = c.before.before.before in
+    let a = u.args in
+    let s = u.plain_side_part.new.seen in
+    let kept : s ≡ a.seen.now = subst (PlainSidePartIs a.table.now a.at Right a.seen.now s) c.in-Nowhere.is u.plain_side_part.ensures in
+    subst (λ (x : List Bool). SidePartContract a.table.now a.at Right x c.mixed_side_part.new.seen c.mixed_side_part.result) kept c.mixed_side_part.ensures
 
 pub right_part_spec : {M : Type 1} → statement M
-right_part_spec = tie.close (tie.spec
+right_part_spec =
+    tie.close
+    (tie.spec
     plain-side-part-requires
     enum-known-e
     enum_told

@@ -22,7 +22,7 @@ loop-holds : tie.Need-loop-k-init invariant-loop decreases-loop
 loop-holds c = loop_start c.args.table.now Expression c.args.at c.args.count c.args.seen.now c.requires.0 c.requires.1
 
 plain-turn-requires : tie.Need-plain_turn-requires invariant-loop decreases-loop
-plain-turn-requires c κs = (c.before.loop-k.invariant.reaches.inside, c.before.before.requires.2)
+plain-turn-requires c κs = (c.loop-k.invariant.reaches.inside, c.requires.2)
 
 enum-known-e : tie.Need-enum_known-e invariant-loop decreases-loop
 enum-known-e c = search rules
@@ -34,33 +34,35 @@ returns : tie.Need-returns-in_default invariant-loop decreases-loop
 returns c = tt
 
 -- the turn
-turn : (c : tie.In-On invariant-loop decreases-loop) → Turned c.before.before.before.before.before.before.args.table.now Expression c.before.before.before.before.before.loop-k.i c.before.before.before.before.before.before.args.seen.now c.before.before.before.before.before.before.args.seen.now c.before.e-1.given.0.0 c.before.e-1.given.0.1.0 false
+turn : (c : tie.In-On invariant-loop decreases-loop) → Turned c.args.table.now Expression c.loop-k.i c.args.seen.now c.args.seen.now c.in-On.e c.in-On.m false
 turn c =
-    let u = c.before.before.before in
-    let l = u.before.before.loop-k in
-    let a = u.before.before.before.args in
-    subst (PlainTurnIs a.table.now l.i a.seen.now) c.before.e-1.given.1 u.plain_turn.ensures
+    let u = c.before in
+    let l = u.loop-k in
+    let a = u.args in
+    subst (PlainTurnIs a.table.now l.i a.seen.now) c.in-On.is u.plain_turn.ensures
 
-taken : (c : tie.In-On invariant-loop decreases-loop) → 0 < c.before.before.before.before.before.loop-k.k
-taken c = c.before.before.before.before.loop-k-test.true
+taken : (c : tie.In-On invariant-loop decreases-loop) → 0 < c.loop-k.k
+taken c = c.loop-k-test.true
 
 sub-k : tie.Need-overflow_sub-k invariant-loop decreases-loop
 sub-k c = search rules
 
 add-k : tie.Need-overflow_add-k invariant-loop decreases-loop
-add-k c = let f = loop_few c.before.before.before.before.before.loop-k.invariant (taken c) (turn c) in search rules
+add-k c = let f = loop_few c.loop-k.invariant (taken c) (turn c) in search rules
 
 loop-less : tie.Need-loop-k-smaller invariant-loop decreases-loop
-loop-less c = loop_nearer c.before.before.before.before.before.loop-k.invariant (taken c) (turn c)
+loop-less c = loop_nearer c.loop-k.invariant (taken c) (turn c)
 
 loop-again : tie.Need-loop-k-preserved invariant-loop decreases-loop
-loop-again c = loop_on c.before.before.before.before.before.loop-k.invariant (taken c) (turn c)
+loop-again c = loop_on c.loop-k.invariant (taken c) (turn c)
 
 returns-2 : tie.Need-returns invariant-loop decreases-loop
-returns-2 c = loop_done c.before.loop-k.invariant (let h = c.loop-k-test.false in omega arith)
+returns-2 c = loop_done c.loop-k.invariant (let h = c.loop-k-test.false in omega arith)
 
 pub plain_end_spec : {M : Type 1} → statement M
-plain_end_spec = tie.close (tie.spec
+plain_end_spec =
+    tie.close
+    (tie.spec
     invariant-loop
     decreases-loop
     loop-holds

@@ -14,8 +14,8 @@ use Rattle.table.proofs.plain_expression.plain_turn.Statement.{statement}
 use Rattle.table.proofs.plain_expression.plain_turn.Tie as tie
 
 -- the node that stands there
-known : (c : tie.After-plain_node) (n : Node) → c.plain_node.result ≡ n → KnownAt c.before.args.table.now c.before.args.i n
-known c n e = subst (KnownAt c.before.args.table.now c.before.args.i) e c.plain_node.ensures
+known : (c : tie.After-plain_node) (n : Node) → c.plain_node.result ≡ n → KnownAt c.args.table.now c.args.i n
+known c n e = subst (KnownAt c.args.table.now c.args.i) e c.plain_node.ensures
 
 plain-node-requires : tie.Need-plain_node-requires
 plain-node-requires c κs = search rules
@@ -28,9 +28,9 @@ add-tagged-terms c = search rules
 
 tagged-terms-requires : tie.Need-tagged_terms-reached-requires
 tagged-terms-requires c κs =
-    let u = c.before.before.before in
-    let h = known u (N.Plain c.before.k-1.given.0.0) c.before.k-1.given.1 in
-    (h.room, plain_few h u.before.args.seen.now, u.before.requires.1)
+    let u = c.before in
+    let h = known u (N.Plain c.in-Plain.k) c.in-Plain.is in
+    (h.room, plain_few h u.args.seen.now, u.requires.1)
 
 enum-known-k-2 : tie.Need-enum_known-k-in-Call-1
 enum-known-k-2 c = search rules
@@ -42,7 +42,7 @@ enum-known-v : tie.Need-enum_known-v
 enum-known-v c = search rules
 
 element-copy-out-if2 : tie.Need-bounds-seen-v
-element-copy-out-if2 c = number_small (known c.before.before.before (N.Variable c.before.v-1.given.0.0) c.before.v-1.given.1)
+element-copy-out-if2 c = number_small (known c.before (N.Variable c.in-Variable.v) c.in-Variable.is)
 
 add-t20 : tie.Need-overflow_add-result-then-seen-v
 add-t20 c = search rules
@@ -57,28 +57,28 @@ returns : tie.Need-returns-then-reached-eq0
 returns c =
     let w = c.before.before in
     let v = w.before in
-    let u = v.before.before.before in
-    let a = u.before.args in
-    let k = v.before.k-1.given.0.0 in
+    let u = v.before in
+    let a = u.args in
+    let k = v.in-Plain.k in
     let r = w.tagged_terms-reached.result in
-    plain_on (known u (N.Plain k) v.before.k-1.given.1) a.seen.now (all_tagged a.table.now (a.i + 2) k r w.tagged_terms-reached.ensures c.if-reached-eq0.true) r.at false refl
+    plain_on (known u (N.Plain k) v.in-Plain.is) a.seen.now (all_tagged a.table.now (a.i + 2) k r w.tagged_terms-reached.ensures c.if-reached-eq0.true) r.at false refl
 
 returns-2 : tie.Need-returns-else-reached-eq0
 returns-2 c = tt
 
 returns-3 : tie.Need-returns-in-Call
 returns-3 c =
-    let u = c.before.before.before in
-    let k = c.before.k-in-Call-1.given.0.0 in
-    let f = c.before.k-in-Call-1.given.0.1.0 in
-    let h = known u (N.Call k f) c.before.k-in-Call-1.given.1 in
-    argument_on h.0 u.before.args.seen.now (small_code f h.1)
+    let u = c.before in
+    let k = c.in-Call.k in
+    let f = c.in-Call.field-1 in
+    let h = known u (N.Call k f) c.in-Call.is in
+    argument_on h.0 u.args.seen.now (small_code f h.1)
 
 returns-4 : tie.Need-returns-then-seen-v
 returns-4 c =
     let w = c.before.before in
-    let u = w.before.before.before in
-    flagged_on (known u (N.Variable w.before.v-1.given.0.0) w.before.v-1.given.1) u.before.args.seen.now c.if-seen-v.true
+    let u = w.before in
+    flagged_on (known u (N.Variable w.in-Variable.v) w.in-Variable.is) u.args.seen.now c.if-seen-v.true
 
 returns-5 : tie.Need-returns-else-seen-v
 returns-5 c = tt
@@ -90,7 +90,9 @@ returns-7 : tie.Need-returns-in-Bad
 returns-7 c = tt
 
 pub plain_turn_spec : {M : Type 1} → statement M
-plain_turn_spec = tie.close (tie.spec
+plain_turn_spec =
+    tie.close
+    (tie.spec
     plain-node-requires
     enum-known-k
     add-tagged-terms

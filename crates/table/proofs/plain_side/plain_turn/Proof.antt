@@ -14,8 +14,8 @@ use Rattle.table.proofs.plain_side.plain_turn.Statement.{statement}
 use Rattle.table.proofs.plain_side.plain_turn.Tie as tie
 
 -- the node that stands there
-known : (c : tie.After-plain_node) (n : Node) → c.plain_node.result ≡ n → KnownAt c.before.args.table.now c.before.args.i n
-known c n e = subst (KnownAt c.before.args.table.now c.before.args.i) e c.plain_node.ensures
+known : (c : tie.After-plain_node) (n : Node) → c.plain_node.result ≡ n → KnownAt c.args.table.now c.args.i n
+known c n e = subst (KnownAt c.args.table.now c.args.i) e c.plain_node.ensures
 
 plain-node-requires : tie.Need-plain_node-requires
 plain-node-requires c κs = search rules
@@ -30,16 +30,16 @@ enum-known-k-2 : tie.Need-enum_known-k-in-Call-1
 enum-known-k-2 c = search rules
 
 returns : tie.Need-returns-then-left
-returns c = let a = c.before.before.before.before.before.args in kept_same (side_level a.left) a.seen.now
+returns c = let a = c.args in kept_same (side_level a.left) a.seen.now
 
 add-plain-end : tie.Need-overflow_add-i
 add-plain-end c = search rules
 
 plain-end-requires : tie.Need-plain_end-requires
 plain-end-requires c κs =
-    let v = c.before.before.before in
+    let v = c.before in
     let u = v.before.before in
-    let h = (known u (N.Call v.k-in-Call-1.given.0.0 v.k-in-Call-1.given.0.1.0) v.k-in-Call-1.given.1).0 in
+    let h = (known u (N.Call v.in-Call.k v.in-Call.field-1) v.in-Call.is).0 in
     (h.room, call_children h u.before.args.seen.now, u.before.requires.1)
 
 enum-known-e : tie.Need-enum_known-e
@@ -49,13 +49,13 @@ enum_told : tie.Need-enum_told-1
 enum_told c = search rules
 
 returns-2 : tie.Need-returns-in_default
-returns-2 c = let a = c.before.before.before.before.before.before.before.before.before.args in kept_same (side_level a.left) a.seen.now
+returns-2 c = let a = c.before.args in kept_same (side_level a.left) a.seen.now
 
 enum-known-v : tie.Need-enum_known-v
 enum-known-v c = search rules
 
 takes-variable-requires : tie.Need-takes_variable-requires
-takes-variable-requires c κs = let w = c.before.before in number_small (known w.before.before (N.Variable w.v-1.given.0.0) w.v-1.given.1)
+takes-variable-requires c κs = let w = c.before in number_small (known w.before (N.Variable w.in-Variable.v) w.in-Variable.is)
 
 add-t20 : tie.Need-overflow_add-result-then-takes_variable
 add-t20 c = search rules
@@ -68,43 +68,45 @@ enum-told-3 c = search rules
 
 returns-3 : tie.Need-returns-in-Plain
 returns-3 c =
-    let u = c.before.before.before in
-    let a = u.before.args in
-    side_plain (known u (N.Plain c.before.k-1.given.0.0) c.before.k-1.given.1) a.left a.seen.now
+    let u = c.before in
+    let a = u.args in
+    side_plain (known u (N.Plain c.in-Plain.k) c.in-Plain.is) a.left a.seen.now
 
 returns-4 : tie.Need-returns-in-At
 returns-4 c =
-    let w = c.before.before.before.before in
-    let v = w.before.before.before in
+    let w = c.before.before in
+    let v = w.before in
     let u = v.before.before in
     let a = u.before.args in
-    let k = v.k-in-Call-1.given.0.0 in
-    let h = known u (N.Call k v.k-in-Call-1.given.0.1.0) v.k-in-Call-1.given.1 in
-    plain_call h.0 h.1 a.seen.now c.before.e-1.given.0.0 (subst (PlainEndIs a.table.now (a.i + 2) k a.seen.now) c.before.e-1.given.1 c.before.before.before.plain_end.ensures) a.left w.before.if-left.false
+    let k = v.in-Call.k in
+    let h = known u (N.Call k v.in-Call.field-1) v.in-Call.is in
+    plain_call h.0 h.1 a.seen.now c.in-At.e (subst (PlainEndIs a.table.now (a.i + 2) k a.seen.now) c.in-At.is c.plain_end.ensures) a.left w.if-left.false
 
 returns-5 : tie.Need-returns-then-takes_variable
 returns-5 c =
     let w = c.before in
-    let x = w.before.before.before in
-    let u = x.before.before in
-    let a = u.before.args in
-    side_variable (known u (N.Variable x.v-1.given.0.0) x.v-1.given.1) (side_level a.left) a.seen.now w.takes_variable.ensures c.if-takes_variable.true
+    let x = w.before.before in
+    let u = x.before in
+    let a = u.args in
+    side_variable (known u (N.Variable x.in-Variable.v) x.in-Variable.is) (side_level a.left) a.seen.now w.takes_variable.ensures c.if-takes_variable.true
 
 returns-6 : tie.Need-returns-else-takes_variable
 returns-6 c =
     let w = c.before in
-    let x = w.before.before.before in
-    let a = x.before.before.before.args in
-    kept_flags (side_level a.left) x.v-1.given.0.0 a.seen.now w.takes_variable.ensures.leaves
+    let x = w.before.before in
+    let a = x.args in
+    kept_flags (side_level a.left) x.in-Variable.v a.seen.now w.takes_variable.ensures.leaves
 
 returns-7 : tie.Need-returns-in-Literal
-returns-7 c = let a = c.before.before.before.args in kept_same (side_level a.left) a.seen.now
+returns-7 c = let a = c.args in kept_same (side_level a.left) a.seen.now
 
 returns-8 : tie.Need-returns-in-Bad
-returns-8 c = let a = c.before.before.before.args in kept_same (side_level a.left) a.seen.now
+returns-8 c = let a = c.args in kept_same (side_level a.left) a.seen.now
 
 pub plain_turn_spec : {M : Type 1} → statement M
-plain_turn_spec = tie.close (tie.spec
+plain_turn_spec =
+    tie.close
+    (tie.spec
     plain-node-requires
     enum-known-k
     add-t12

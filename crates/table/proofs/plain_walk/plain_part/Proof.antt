@@ -26,11 +26,11 @@ returns-2 : tie.Need-returns-in_default
 returns-2 c = tt
 
 -- the place that was found
-reached : (c : tie.In-At) → Ends c.before.before.before.before.before.args.table.now Expression c.before.before.before.before.before.args.at 1 c.before.before.before.before.before.args.seen.now c.before.before.before.before.before.args.seen.now c.before.end-1.given.0.0 false
+reached : (c : tie.In-At) → Ends c.args.table.now Expression c.args.at 1 c.args.seen.now c.args.seen.now c.in-At.end false
 reached c =
-    let u = c.before.before.before in
-    let a = u.before.before.args in
-    subst (PlainEndIs a.table.now a.at 1 a.seen.now) c.before.end-1.given.1 u.plain_end.ensures
+    let u = c.before in
+    let a = u.args in
+    subst (PlainEndIs a.table.now a.at 1 a.seen.now) c.in-At.is u.plain_end.ensures
 
 sub-if2 : tie.Need-overflow_sub-end
 sub-if2 c = (reached c).reaches.later
@@ -41,12 +41,14 @@ returns-3 c = tt
 returns-4 : tie.Need-returns
 returns-4 c =
     let v = c.before in
-    let u = v.before.before.before.before in
-    let a = u.before.args in
-    placed_at v.before.end-1.given.0.0 (part_end a.table.now a.at Expression a.seen.now) (part_unmet u.if-table-at.false (reached v).reaches c.if-end-at-gt-MAX_TERM_WORDS.false ((reached v).order.none refl)).answer
+    let u = v.before.before in
+    let a = u.args in
+    placed_at v.in-At.end (part_end a.table.now a.at Expression a.seen.now) (part_unmet u.if-table-at.false (reached v).reaches c.if-end-at-gt-MAX_TERM_WORDS.false ((reached v).order.none refl)).answer
 
 pub plain_part_spec : {M : Type 1} → statement M
-plain_part_spec = tie.close (tie.spec
+plain_part_spec =
+    tie.close
+    (tie.spec
     returns
     plain-end-requires
     enum-known-end

@@ -31,10 +31,10 @@ enum_told c = search rules
 
 returns : tie.Need-returns-in_default invariant-loop decreases-loop
 returns c =
-    let l = c.before.before.before.before.loop-k in
-    let ws = c.before.before.before.before.before.args.table.now in
-    let s = c.before.before.before.before.before.args.seen.now in
-    sym (ap placed (l.invariant ∙ first_missed ws s l.i l.k c.before.before.before.loop-k-test.true (placed_nowhere (part_end ws l.i Expression s) (sym c.enum_told-1.given.1 ∙ c.before.before.expression_part.ensures))))
+    let l = c.loop-k in
+    let ws = c.args.table.now in
+    let s = c.args.seen.now in
+    sym (ap placed (l.invariant ∙ first_missed ws s l.i l.k c.loop-k-test.true (placed_nowhere (part_end ws l.i Expression s) (sym c.in_default.is ∙ c.expression_part.ensures))))
 
 expression-part-requires-2 : tie.Need-expression_part-requires-in-loop-k invariant-loop decreases-loop
 expression-part-requires-2 c κs = search rules
@@ -46,16 +46,16 @@ enum-told-2 : tie.Need-enum_told-in_default-expression_part invariant-loop decre
 enum-told-2 c = search rules
 
 -- the first side of a condition
-first : (c : tie.In-At invariant-loop decreases-loop) → part_end c.before.before.before.before.before.before.args.table.now c.before.before.before.before.before.loop-k.i Expression c.before.before.before.before.before.before.args.seen.now ≡ some c.before.second-1.given.0.0
-first c = placed_at c.before.second-1.given.0.0 (part_end c.before.before.before.before.before.before.args.table.now c.before.before.before.before.before.loop-k.i Expression c.before.before.before.before.before.before.args.seen.now) (sym c.before.second-1.given.1 ∙ c.before.before.before.expression_part.ensures)
+first : (c : tie.In-At invariant-loop decreases-loop) → part_end c.args.table.now c.loop-k.i Expression c.args.seen.now ≡ some c.in-At.second
+first c = placed_at c.in-At.second (part_end c.args.table.now c.loop-k.i Expression c.args.seen.now) (sym c.in-At.is ∙ c.expression_part.ensures)
 
 returns-2 : tie.Need-returns-in_default-expression_part invariant-loop decreases-loop
 returns-2 c =
-    let l = c.before.before.before.before.before.before.before.before.loop-k in
-    let ws = c.before.before.before.before.before.before.before.before.before.args.table.now in
-    let s = c.before.before.before.before.before.before.before.before.before.args.seen.now in
-    let m = c.before.before.before.before.second-1.given.0.0 in
-    sym (ap placed (l.invariant ∙ second_missed ws s l.i l.k c.before.before.before.before.before.before.before.loop-k-test.true m (first c.before.before.before) (placed_nowhere (part_end ws m Expression s) (sym c.enum_told-in_default-expression_part-1.given.1 ∙ c.before.before.expression_part-in-loop-k.ensures))))
+    let l = c.loop-k in
+    let ws = c.args.table.now in
+    let s = c.args.seen.now in
+    let m = c.in-At.second in
+    sym (ap placed (l.invariant ∙ second_missed ws s l.i l.k c.loop-k-test.true m (first c.before.before) (placed_nowhere (part_end ws m Expression s) (sym c.in_default-expression_part.is ∙ c.expression_part-in-loop-k.ensures))))
 
 sub-k : tie.Need-overflow_sub-k invariant-loop decreases-loop
 sub-k c = search rules
@@ -65,22 +65,24 @@ loop-less c = search rules
 
 loop-again : tie.Need-loop-k-preserved invariant-loop decreases-loop
 loop-again c =
-    let l = c.before.before.before.before.before.before.before.before.before.loop-k in
-    let ws = c.before.before.before.before.before.before.before.before.before.before.args.table.now in
-    let s = c.before.before.before.before.before.before.before.before.before.before.args.seen.now in
-    let m = c.before.before.before.before.before.second-1.given.0.0 in
-    let e = c.before.end-1.given.0.0 in
-    l.invariant ∙ both_found ws s l.i l.k c.before.before.before.before.before.before.before.before.loop-k-test.true m (first c.before.before.before.before) e (placed_at e (part_end ws m Expression s) (sym c.before.end-1.given.1 ∙ c.before.before.before.expression_part-in-loop-k.ensures))
+    let l = c.loop-k in
+    let ws = c.args.table.now in
+    let s = c.args.seen.now in
+    let m = c.in-At.second in
+    let e = c.in-At-expression_part.end in
+    l.invariant ∙ both_found ws s l.i l.k c.loop-k-test.true m (first c.before.before) e (placed_at e (part_end ws m Expression s) (sym c.in-At-expression_part.is ∙ c.expression_part-in-loop-k.ensures))
 
 returns-3 : tie.Need-returns invariant-loop decreases-loop
 returns-3 c =
-    let l = c.before.loop-k in
-    let a = c.before.before.args in
+    let l = c.loop-k in
+    let a = c.args in
     let z : l.k ≡ 0 = let h = c.loop-k-test.false in omega arith in
     sym (ap placed (l.invariant ∙ ap (λ (n : ℕ). conditions_end n a.table.now a.seen.now l.i) z))
 
 pub conditions_end_spec : {M : Type 1} → statement M
-conditions_end_spec = tie.close (tie.spec
+conditions_end_spec =
+    tie.close
+    (tie.spec
     invariant-loop
     decreases-loop
     loop-holds

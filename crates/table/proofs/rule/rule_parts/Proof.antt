@@ -25,48 +25,48 @@ use Rattle.table.proofs.rule.rule_parts.Statement.{statement}
 use Rattle.table.proofs.rule.rule_parts.Tie as tie
 
 -- the words and their numbers
-room : (c : tie.Else-n-at) → left_from c.before.before.args.at ≤ length c.before.before.args.table.now
+room : (c : tie.Else-n-at) → left_from c.args.at ≤ length c.args.table.now
 room c = omega arith
 
-first_number : (c : tie.After-natural) → c.natural.result ≡ natural_of c.before.word.result
-first_number c = let f : SFits w64 c.before.word.result = search rules in via natural_of f c.natural.ensures
+first_number : (c : tie.After-natural) → c.natural.result ≡ natural_of c.word.result
+first_number c = let f : SFits w64 c.word.result = search rules in via natural_of f c.natural.ensures
 
-second_number : (c : tie.After-natural-count) → c.natural-count.result ≡ natural_of c.before.word-2.result
-second_number c = let f : SFits w64 c.before.word-2.result = search rules in via natural_of f c.natural-count.ensures
+second_number : (c : tie.After-natural-count) → c.natural-count.result ≡ natural_of c.word-2.result
+second_number c = let f : SFits w64 c.word-2.result = search rules in via natural_of f c.natural-count.ensures
 
-head : (c : tie.Else-count-gt-MAX_CONDITIONS) → Head c.before.before.before.before.before.before.before.before.args.table.now c.before.before.before.before.before.before.before.before.args.at c.before.natural-count.result
+head : (c : tie.Else-count-gt-MAX_CONDITIONS) → Head c.args.table.now c.args.at c.natural-count.result
 head c =
     let p = first_number c.before.before.before.before in
     let q = second_number c.before in
-    subst⁻¹ (Head c.before.before.before.before.before.before.before.before.args.table.now c.before.before.before.before.before.before.before.before.args.at) q
-    (rule_head c.before.before.before.before.before.before.before.before.args.table.now c.before.before.before.before.before.before.before.before.args.at (room c.before.before.before.before.before.before) c.before.before.before.before.before.word.result c.before.before.word-2.result c.before.before.before.before.before.word.ensures c.before.before.word-2.ensures (omega arith) (omega arith))
+    subst⁻¹ (Head c.args.table.now c.args.at) q
+    (rule_head c.args.table.now c.args.at (room c.before.before.before.before.before.before) c.word.result c.word-2.result c.word.ensures c.word-2.ensures (omega arith) (omega arith))
 
 -- the left, and the flags after it
-left_contract : (c : tie.After-left_part) → PartContract c.before.before.before.before.before.before.before.before.before.before.args.table.now (left_from c.before.before.before.before.before.before.before.before.before.before.args.at) Left unseen c.left_part.new.1.1.0 (place_of c.left_part.result)
+left_contract : (c : tie.After-left_part) → PartContract c.args.table.now (left_from c.args.at) Left unseen c.left_part.new.seen (place_of c.left_part.result)
 left_contract c = c.left_part.ensures.part
 
-left_at : (c : tie.In-At) → part_end c.before.before.before.before.before.before.before.before.before.before.before.before.before.args.table.now (left_from c.before.before.before.before.before.before.before.before.before.before.before.before.before.args.at) Left unseen ≡ some c.before.right-1.given.0.0
-left_at c = placed_at c.before.right-1.given.0.0 (part_end c.before.before.before.before.before.before.before.before.before.before.before.before.before.args.table.now (left_from c.before.before.before.before.before.before.before.before.before.before.before.before.before.args.at) Left unseen) (sym (ap place_of c.before.right-1.given.1) ∙ (left_contract c.before.before.before).answer)
+left_at : (c : tie.In-At) → part_end c.args.table.now (left_from c.args.at) Left unseen ≡ some c.in-At.right
+left_at c = placed_at c.in-At.right (part_end c.args.table.now (left_from c.args.at) Left unseen) (sym (ap place_of c.in-At.is) ∙ (left_contract c.before).answer)
 
 -- the right, by these flags, which it keeps
-right_is_lem : (c : tie.After-right_part) → place_of c.right_part.result ≡ placed (part_end c.before.before.before.before.before.before.before.before.before.before.before.before.before.before.before.args.table.now c.before.before.before.right-1.given.0.0 Right (part_seen c.before.before.before.before.before.before.before.before.before.before.before.before.before.before.before.args.table.now (left_from c.before.before.before.before.before.before.before.before.before.before.before.before.before.before.before.args.at) Left unseen))
-right_is_lem c = c.right_part.ensures.part.answer ∙ ap (λ (s : List Bool). placed (part_end c.before.before.before.before.before.before.before.before.before.before.before.before.before.before.before.args.table.now c.before.before.before.right-1.given.0.0 Right s)) (left_contract c.before.before.before.before.before).leaves
+right_is_lem : (c : tie.After-right_part) → place_of c.right_part.result ≡ placed (part_end c.args.table.now c.in-At.right Right (part_seen c.args.table.now (left_from c.args.at) Left unseen))
+right_is_lem c = c.right_part.ensures.part.answer ∙ ap (λ (s : List Bool). placed (part_end c.args.table.now c.in-At.right Right s)) (left_contract c.before.before.before).leaves
 
-right_at : (c : tie.In-At-right_part) → part_end c.before.before.before.before.before.before.before.before.before.before.before.before.before.before.before.before.before.before.args.table.now c.before.before.before.before.before.before.right-1.given.0.0 Right (part_seen c.before.before.before.before.before.before.before.before.before.before.before.before.before.before.before.before.before.before.args.table.now (left_from c.before.before.before.before.before.before.before.before.before.before.before.before.before.before.before.before.before.before.args.at) Left unseen) ≡ some c.before.conditions-1.given.0.0
-right_at c = placed_at c.before.conditions-1.given.0.0 (part_end c.before.before.before.before.before.before.before.before.before.before.before.before.before.before.before.before.before.before.args.table.now c.before.before.before.before.before.before.right-1.given.0.0 Right (part_seen c.before.before.before.before.before.before.before.before.before.before.before.before.before.before.before.before.before.before.args.table.now (left_from c.before.before.before.before.before.before.before.before.before.before.before.before.before.before.before.before.before.before.args.at) Left unseen)) (sym (ap place_of c.before.conditions-1.given.1) ∙ right_is_lem c.before.before.before)
+right_at : (c : tie.In-At-right_part) → part_end c.args.table.now c.in-At.right Right (part_seen c.args.table.now (left_from c.args.at) Left unseen) ≡ some c.in-At-right_part.conditions
+right_at c = placed_at c.in-At-right_part.conditions (part_end c.args.table.now c.in-At.right Right (part_seen c.args.table.now (left_from c.args.at) Left unseen)) (sym (ap place_of c.in-At-right_part.is) ∙ right_is_lem c.before)
 
-kept : (c : tie.After-right_part) → c.right_part.new.1.1.0 ≡ part_seen c.before.before.before.before.before.before.before.before.before.before.before.before.before.before.before.args.table.now (left_from c.before.before.before.before.before.before.before.before.before.before.before.before.before.before.before.args.at) Left unseen
-kept c = c.right_part.ensures.part.leaves ∙ (part_keeps c.before.before.before.before.before.before.before.before.before.before.before.before.before.before.before.args.table.now c.before.before.before.right-1.given.0.0 Right c.before.before.before.before.before.left_part.new.1.1.0 tt ∙ (left_contract c.before.before.before.before.before).leaves)
+kept : (c : tie.After-right_part) → c.right_part.new.seen ≡ part_seen c.args.table.now (left_from c.args.at) Left unseen
+kept c = c.right_part.ensures.part.leaves ∙ (part_keeps c.args.table.now c.in-At.right Right c.left_part.new.seen tt ∙ (left_contract c.before.before.before).leaves)
 
 -- the conditions
-conditions_are : (c : tie.After-conditions_end) → c.conditions_end.result ≡ placed (conditions_end c.before.before.before.before.before.before.before.before.before.before.before.before.before.natural-count.result c.before.before.before.before.before.before.before.before.before.before.before.before.before.before.before.before.before.before.before.before.args.table.now (part_seen c.before.before.before.before.before.before.before.before.before.before.before.before.before.before.before.before.before.before.before.before.args.table.now (left_from c.before.before.before.before.before.before.before.before.before.before.before.before.before.before.before.before.before.before.before.before.args.at) Left unseen) c.before.before.before.conditions-1.given.0.0)
-conditions_are c = c.conditions_end.ensures ∙ ap (λ (s : List Bool). placed (conditions_end c.before.before.before.before.before.before.before.before.before.before.before.before.before.natural-count.result c.before.before.before.before.before.before.before.before.before.before.before.before.before.before.before.before.before.before.before.before.args.table.now s c.before.before.before.conditions-1.given.0.0)) (kept c.before.before.before.before.before)
+conditions_are : (c : tie.After-conditions_end) → c.conditions_end.result ≡ placed (conditions_end c.natural-count.result c.args.table.now (part_seen c.args.table.now (left_from c.args.at) Left unseen) c.in-At-right_part.conditions)
+conditions_are c = c.conditions_end.ensures ∙ ap (λ (s : List Bool). placed (conditions_end c.natural-count.result c.args.table.now s c.in-At-right_part.conditions)) (kept c.before.before.before)
 
 returns : tie.Need-returns-then-n-lt-HEADER
-returns c = rule_short c.before.args.table.now c.before.args.at (omega arith)
+returns c = rule_short c.args.table.now c.args.at (omega arith)
 
 returns-2 : tie.Need-returns-then-n-at
-returns-2 c = rule_short c.before.before.args.table.now c.before.before.args.at (omega arith)
+returns-2 c = rule_short c.args.table.now c.args.at (omega arith)
 
 word-requires : tie.Need-word-requires
 word-requires c κs = search rules
@@ -77,7 +77,7 @@ natural-requires c κs = search rules
 returns-3 : tie.Need-returns-then-natural-gt-MAX_ACTION
 returns-3 c =
     let p = first_number c.before in
-    rule_action c.before.before.before.before.before.args.table.now c.before.before.before.before.before.args.at (room c.before.before.before) c.before.before.word.result (get_or c.before.before.before.before.before.args.table.now (c.before.before.before.before.before.args.at + 1) (pos 0)) c.before.before.word.ensures refl (omega arith)
+    rule_action c.args.table.now c.args.at (room c.before.before.before) c.word.result (get_or c.args.table.now (c.args.at + 1) (pos 0)) c.word.ensures refl (omega arith)
 
 add-word : tie.Need-overflow_add-at
 add-word c = search rules
@@ -92,7 +92,7 @@ returns-4 : tie.Need-returns-then-count-gt-MAX_CONDITIONS
 returns-4 c =
     let p = first_number c.before.before.before.before in
     let q = second_number c.before in
-    rule_count c.before.before.before.before.before.before.before.before.args.table.now c.before.before.before.before.before.before.before.before.args.at (room c.before.before.before.before.before.before) c.before.before.before.before.before.word.result c.before.before.word-2.result c.before.before.before.before.before.word.ensures c.before.before.word-2.ensures (omega arith) (omega arith)
+    rule_count c.args.table.now c.args.at (room c.before.before.before.before.before.before) c.word.result c.word-2.result c.word.ensures c.word-2.ensures (omega arith) (omega arith)
 
 add-left-part : tie.Need-overflow_add-at-2
 add-left-part c = search rules
@@ -108,9 +108,9 @@ enum_told c = search rules
 
 returns-5 : tie.Need-returns-in_default
 returns-5 c =
-    let ws = c.before.before.before.before.before.before.before.before.before.before.before.before.args.table.now in
-    let at = c.before.before.before.before.before.before.before.before.before.before.before.before.args.at in
-    rule_left ws at c.before.before.before.before.before.natural-count.result (head c.before.before.before.before) (placed_nowhere (part_end ws (left_from at) Left unseen) (sym (ap place_of c.enum_told-1.given.1) ∙ (left_contract c.before.before).answer))
+    let ws = c.args.table.now in
+    let at = c.args.at in
+    rule_left ws at c.natural-count.result (head c.before.before.before) (placed_nowhere (part_end ws (left_from at) Left unseen) (sym (ap place_of c.in_default.is) ∙ (left_contract c.before).answer))
 
 right-part-requires : tie.Need-right_part-requires
 right-part-requires c κs = search rules
@@ -123,11 +123,11 @@ enum-told-2 c = search rules
 
 returns-6 : tie.Need-returns-in_default-right_part
 returns-6 c =
-    let ws = c.before.before.before.before.before.before.before.before.before.before.before.before.before.before.before.before.before.args.table.now in
-    let at = c.before.before.before.before.before.before.before.before.before.before.before.before.before.before.before.before.before.args.at in
-    let right = c.before.before.before.before.before.right-1.given.0.0 in
-    rule_right ws at c.before.before.before.before.before.before.before.before.before.before.natural-count.result (head c.before.before.before.before.before.before.before.before.before) right (left_at c.before.before.before.before)
-    (placed_nowhere (part_end ws right Right (part_seen ws (left_from at) Left unseen)) (sym (ap place_of c.enum_told-in_default-right_part-1.given.1) ∙ right_is_lem c.before.before))
+    let ws = c.args.table.now in
+    let at = c.args.at in
+    let right = c.in-At.right in
+    rule_right ws at c.natural-count.result (head c.before.before.before.before.before.before) right (left_at c.before.before.before)
+    (placed_nowhere (part_end ws right Right (part_seen ws (left_from at) Left unseen)) (sym (ap place_of c.in_default-right_part.is) ∙ right_is_lem c.before))
 
 conditions-end-requires : tie.Need-conditions_end-requires
 conditions-end-requires c κs = search rules
@@ -140,27 +140,29 @@ enum-told-3 c = search rules
 
 returns-7 : tie.Need-returns-in_default-conditions_end
 returns-7 c =
-    let ws = c.before.before.before.before.before.before.before.before.before.before.before.before.before.before.before.before.before.before.before.before.before.before.args.table.now in
-    let at = c.before.before.before.before.before.before.before.before.before.before.before.before.before.before.before.before.before.before.before.before.before.before.args.at in
-    let count = c.before.before.before.before.before.before.before.before.before.before.before.before.before.before.before.natural-count.result in
-    let conditions = c.before.before.before.before.before.conditions-1.given.0.0 in
-    rule_conditions ws at count (head c.before.before.before.before.before.before.before.before.before.before.before.before.before.before) c.before.before.before.before.before.before.before.before.before.before.right-1.given.0.0 (left_at c.before.before.before.before.before.before.before.before.before) conditions (right_at c.before.before.before.before)
-    (placed_nowhere (conditions_end count ws (part_seen ws (left_from at) Left unseen) conditions) (sym c.enum_told-in_default-conditions_end-1.given.1 ∙ conditions_are c.before.before))
+    let ws = c.args.table.now in
+    let at = c.args.at in
+    let count = c.natural-count.result in
+    let conditions = c.in-At-right_part.conditions in
+    rule_conditions ws at count (head c.before.before.before.before.before.before.before.before.before) c.in-At.right (left_at c.before.before.before.before.before.before) conditions (right_at c.before.before.before)
+    (placed_nowhere (conditions_end count ws (part_seen ws (left_from at) Left unseen) conditions) (sym c.in_default-conditions_end.is ∙ conditions_are c.before))
 
 returns-8 : tie.Need-returns
 returns-8 c =
-    let ws = c.before.before.before.before.before.before.before.before.before.before.before.before.before.before.before.before.before.before.before.before.before.before.before.args.table.now in
-    let at = c.before.before.before.before.before.before.before.before.before.before.before.before.before.before.before.before.before.before.before.before.before.before.before.args.at in
-    let count = c.before.before.before.before.before.before.before.before.before.before.before.before.before.before.before.before.natural-count.result in
-    let conditions = c.before.before.before.before.before.before.conditions-1.given.0.0 in
-    let end = c.before.end-1.given.0.0 in
-    let g = c.before.before.before.before.before.before.conditions-1.given in
-    rule_good ws at count (head c.before.before.before.before.before.before.before.before.before.before.before.before.before.before.before) c.before.before.before.before.before.before.before.before.before.before.before.right-1.given.0.0 (left_at c.before.before.before.before.before.before.before.before.before.before) conditions (right_at c.before.before.before.before.before) end
-    (placed_at end (conditions_end count ws (part_seen ws (left_from at) Left unseen) conditions) (sym c.before.end-1.given.1 ∙ conditions_are c.before.before.before))
-    g.0.1.0 g.0.1.1.0 (c.before.before.before.before.before.before.before.before.right_part.ensures.sizes conditions g.0.1.0 g.0.1.1.0 g.1)
+    let ws = c.args.table.now in
+    let at = c.args.at in
+    let count = c.natural-count.result in
+    let conditions = c.in-At-right_part.conditions in
+    let end = c.in-At-conditions_end.end in
+    let g = c.conditions-1.given in
+    rule_good ws at count (head c.before.before.before.before.before.before.before.before.before) c.in-At.right (left_at c.before.before.before.before.before.before) conditions (right_at c.before.before.before) end
+    (placed_at end (conditions_end count ws (part_seen ws (left_from at) Left unseen) conditions) (sym c.in-At-conditions_end.is ∙ conditions_are c.before))
+    g.0.1.0 g.0.1.1.0 (c.right_part.ensures.sizes conditions g.0.1.0 g.0.1.1.0 g.1)
 
 pub rule_parts_spec : {M : Type 1} → statement M
-rule_parts_spec = tie.close (tie.spec
+rule_parts_spec =
+    tie.close
+    (tie.spec
     returns
     returns-2
     word-requires

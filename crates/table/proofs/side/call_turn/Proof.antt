@@ -24,9 +24,9 @@ enum_told c = search rules
 
 returns : tie.Need-returns-in_default
 returns c =
-    let u = c.before.before in
-    let a = u.before.args in
-    call_stops u.before.requires.0 a.seen.now (subst (EndIs a.table.now Expression (a.i + 2) a.k a.seen.now a.seen.now) c.enum_told-1.given.1 u.expressions_end.ensures)
+    let u = c.before in
+    let a = u.args in
+    call_stops u.requires.0 a.seen.now (subst (EndIs a.table.now Expression (a.i + 2) a.k a.seen.now a.seen.now) c.in_default.is u.expressions_end.ensures)
 
 call-fixed-requires : tie.Need-call_fixed-requires
 call-fixed-requires c κs = search rules
@@ -37,16 +37,18 @@ call-leaves-requires c κs = search rules
 returns-2 : tie.Need-returns
 returns-2 c =
     let v = c.before.before in
-    let u = v.before.before.before in
-    let a = u.before.args in
-    let e = v.before.e-1.given.0.0 in
-    let m = v.before.e-1.given.0.1.0 in
-    let w : Ends a.table.now Expression (a.i + 2) a.k a.seen.now a.seen.now e m = subst (EndIs a.table.now Expression (a.i + 2) a.k a.seen.now a.seen.now) v.before.e-1.given.1 u.expressions_end.ensures in
-    subst⁻¹ (λ (n : ℕ). SideTurnOn a.table.now Right a.i a.seen.now a.seen.now e 0 n c.call_leaves.result m) c.before.call_fixed.ensures
-    (subst⁻¹ (λ (n : ℕ). SideTurnOn a.table.now Right a.i a.seen.now a.seen.now e 0 (fixed_call a.c) n m) c.call_leaves.ensures (call_on u.before.requires.0 a.seen.now e m w))
+    let u = v.before in
+    let a = u.args in
+    let e = v.in-At.e in
+    let m = v.in-At.met in
+    let w : Ends a.table.now Expression (a.i + 2) a.k a.seen.now a.seen.now e m = subst (EndIs a.table.now Expression (a.i + 2) a.k a.seen.now a.seen.now) v.in-At.is u.expressions_end.ensures in
+    subst⁻¹ (λ (n : ℕ). SideTurnOn a.table.now Right a.i a.seen.now a.seen.now e 0 n c.call_leaves.result m) c.call_fixed.ensures
+    (subst⁻¹ (λ (n : ℕ). SideTurnOn a.table.now Right a.i a.seen.now a.seen.now e 0 (fixed_call a.c) n m) c.call_leaves.ensures (call_on u.requires.0 a.seen.now e m w))
 
 pub call_turn_spec : {M : Type 1} → statement M
-call_turn_spec = tie.close (tie.spec
+call_turn_spec =
+    tie.close
+    (tie.spec
     add-expressions-end
     expressions-end-requires
     enum-known-e

@@ -17,16 +17,18 @@ enum_told : tie.Need-enum_told-1
 enum_told c = search rules
 
 returns : tie.Need-returns-in_default
-returns c = let u = c.before.before in literal_stops u.before.requires.0 u.ground_terms.ensures c.enum_told-1.given.1
+returns c = let u = c.before in literal_stops u.requires.0 u.ground_terms.ensures c.in_default.is
 
 sub-t7 : tie.Need-overflow_sub-result
-sub-t7 c = let u = c.before.before.before in literal_later u.before.requires.0 u.ground_terms.ensures c.before.e-1.given.0.0 c.before.e-1.given.0.1.0 c.before.e-1.given.1
+sub-t7 c = let u = c.before in literal_later u.requires.0 u.ground_terms.ensures c.in-At.e c.in-At.field-1 c.in-At.is
 
 returns-2 : tie.Need-returns
-returns-2 c = let u = c.before.before.before in literal_on u.before.requires.0 u.ground_terms.ensures c.before.e-1.given.0.0 c.before.e-1.given.0.1.0 c.before.e-1.given.1
+returns-2 c = let u = c.before in literal_on u.requires.0 u.ground_terms.ensures c.in-At.e c.in-At.field-1 c.in-At.is
 
 pub literal_turn_spec : {M : Type 1} → statement M
-literal_turn_spec = tie.close (tie.spec
+literal_turn_spec =
+    tie.close
+    (tie.spec
     add-ground-terms
     ground-terms-requires
     enum-known-e

@@ -15,8 +15,8 @@ use Rattle.table.proofs.side.side_turn.Statement.{statement}
 use Rattle.table.proofs.side.side_turn.Tie as tie
 
 -- the node that stands there
-stands : (c : tie.After-node_at) (n : Node) → c.node_at.result ≡ n → FoundAt c.before.args.table.now c.before.args.i n
-stands c n e = subst (FoundAt c.before.args.table.now c.before.args.i) e c.node_at.ensures
+stands : (c : tie.After-node_at) (n : Node) → c.node_at.result ≡ n → FoundAt c.args.table.now c.args.i n
+stands c n e = subst (FoundAt c.args.table.now c.args.i) e c.node_at.ensures
 
 node-at-requires : tie.Need-node_at-requires
 node-at-requires c κs = search rules
@@ -32,32 +32,32 @@ enum-known-k-2 c = search rules
 
 literal-turn-requires : tie.Need-literal_turn-requires
 literal-turn-requires c κs =
-    let u = c.before.before.before in
-    (stands u (N.Literal c.before.k-in-Literal-1.given.0.0) c.before.k-in-Literal-1.given.1, u.before.requires.1)
+    let u = c.before in
+    (stands u (N.Literal c.in-Literal.k) c.in-Literal.is, u.requires.1)
 
 enum-known-k-3 : tie.Need-enum_known-k-in-Call-1
 enum-known-k-3 c = search rules
 
 returns : tie.Need-returns-then-left
 returns c =
-    let v = c.before.before in
-    let u = v.before.before in
-    let a = u.before.args in
-    let k = v.k-in-Call-1.given.0.0 in
-    let f = v.k-in-Call-1.given.0.1.0 in
-    turn_refused (stands u (N.Call k f) v.k-in-Call-1.given.1) (side_level a.left) a.seen.now (ap (λ (b : Bool). cond (takes_call (side_level b) f) (B.Are Expression k) B.Bad) c.if-left.true)
+    let v = c.before in
+    let u = v.before in
+    let a = u.args in
+    let k = v.in-Call.k in
+    let f = v.in-Call.c in
+    turn_refused (stands u (N.Call k f) v.in-Call.is) (side_level a.left) a.seen.now (ap (λ (b : Bool). cond (takes_call (side_level b) f) (B.Are Expression k) B.Bad) c.if-left.true)
 
 call-turn-requires : tie.Need-call_turn-requires
 call-turn-requires c κs =
-    let v = c.before.before.before in
+    let v = c.before in
     let u = v.before.before in
-    (stands u (N.Call v.k-in-Call-1.given.0.0 v.k-in-Call-1.given.0.1.0) v.k-in-Call-1.given.1, u.before.requires.1)
+    (stands u (N.Call v.in-Call.k v.in-Call.c) v.in-Call.is, u.before.requires.1)
 
 enum-known-v : tie.Need-enum_known-v
 enum-known-v c = search rules
 
 takes-variable-requires : tie.Need-takes_variable-requires
-takes-variable-requires c κs = let w = c.before.before in number_small (stands w.before.before (N.Variable w.v-1.given.0.0) w.v-1.given.1)
+takes-variable-requires c κs = let w = c.before in number_small (stands w.before (N.Variable w.in-Variable.v) w.in-Variable.is)
 
 add-t19 : tie.Need-overflow_add-result-then-takes_variable
 add-t19 c = search rules
@@ -67,43 +67,45 @@ enum_told c = search rules
 
 returns-2 : tie.Need-returns-in-Plain
 returns-2 c =
-    let u = c.before.before.before in
-    let a = u.before.args in
-    side_plain (stands u (N.Plain c.before.k-1.given.0.0) c.before.k-1.given.1) a.left a.seen.now
+    let u = c.before in
+    let a = u.args in
+    side_plain (stands u (N.Plain c.in-Plain.k) c.in-Plain.is) a.left a.seen.now
 
 returns-3 : tie.Need-returns-in-Literal
-returns-3 c = let a = c.before.before.before.before.before.args in c.literal_turn.ensures.at (side_level a.left) a.seen.now
+returns-3 c = let a = c.args in c.literal_turn.ensures.at (side_level a.left) a.seen.now
 
 returns-4 : tie.Need-returns-else-left
 returns-4 c =
     let w = c.before in
-    let a = w.before.before.before.before.before.before.args in
-    subst⁻¹ (λ (b : Bool). SideTurnIs a.table.now (side_level b) a.i a.seen.now a.seen.now c.call_turn.result) w.before.if-left.false c.call_turn.ensures
+    let a = w.before.args in
+    subst⁻¹ (λ (b : Bool). SideTurnIs a.table.now (side_level b) a.i a.seen.now a.seen.now c.call_turn.result) w.if-left.false c.call_turn.ensures
 
 returns-5 : tie.Need-returns-then-takes_variable
 returns-5 c =
     let w = c.before in
-    let x = w.before.before.before in
-    let u = x.before.before in
-    let a = u.before.args in
-    side_variable (stands u (N.Variable x.v-1.given.0.0) x.v-1.given.1) (side_level a.left) a.seen.now w.takes_variable.ensures c.if-takes_variable.true
+    let x = w.before.before in
+    let u = x.before in
+    let a = u.args in
+    side_variable (stands u (N.Variable x.in-Variable.v) x.in-Variable.is) (side_level a.left) a.seen.now w.takes_variable.ensures c.if-takes_variable.true
 
 returns-6 : tie.Need-returns-else-takes_variable
 returns-6 c =
     let w = c.before in
-    let x = w.before.before.before in
-    let u = x.before.before in
-    let a = u.before.args in
-    variable_refused (stands u (N.Variable x.v-1.given.0.0) x.v-1.given.1) (side_level a.left) a.seen.now w.takes_variable.ensures c.if-takes_variable.false
+    let x = w.before.before in
+    let u = x.before in
+    let a = u.args in
+    variable_refused (stands u (N.Variable x.in-Variable.v) x.in-Variable.is) (side_level a.left) a.seen.now w.takes_variable.ensures c.if-takes_variable.false
 
 returns-7 : tie.Need-returns-in-Bad
 returns-7 c =
-    let u = c.before.before in
-    let a = u.before.args in
-    turn_none (stands u N.Bad c.enum_told-1.given.1) (side_level a.left) a.seen.now
+    let u = c.before in
+    let a = u.args in
+    turn_none (stands u N.Bad c.in-Bad.is) (side_level a.left) a.seen.now
 
 pub side_turn_spec : {M : Type 1} → statement M
-side_turn_spec = tie.close (tie.spec
+side_turn_spec =
+    tie.close
+    (tie.spec
     node-at-requires
     enum-known-k
     add-t13

@@ -19,15 +19,15 @@ use Rattle.term.proofs.ground.in_range.Statement.{statement}
 use Rattle.term.proofs.ground.in_range.Tie as tie
 
 returns : tie.Need-returns-then-t-lt0
-returns c = let a = c.before.args in low_tag a.t a.d (rw (to_z-of_z w64 a.t c.before.fits.t) at c.if-t-lt0.taken)
+returns c = let a = c.args in low_tag a.t a.d (rw (to_z-of_z w64 a.t c.ranges.t) at c.if-t-lt0.true)
 
 -- the tag as a number, and an answer about that number
 module _ (c : tie.Else-t-lt0) where
-  tag : Natural c.before.args.t 0
-  tag = natural c.before.args.t 0 c.before.fits.t c.if-t-lt0.left
+  tag : Natural c.args.t 0
+  tag = natural c.args.t 0 c.ranges.t c.if-t-lt0.false
 
-  by_tag : {r : Bool} → TaggedNode (pos tag.number) c.before.args.d r → TaggedNode c.before.args.t c.before.args.d r
-  by_tag {r} g = subst (λ (t : ℤ). TaggedNode t c.before.args.d r) tag.is g
+  by_tag : {r : Bool} → TaggedNode (pos tag.number) c.args.d r → TaggedNode c.args.t c.args.d r
+  by_tag {r} g = subst (λ (t : ℤ). TaggedNode t c.args.d r) tag.is g
 
 cast-tag : tie.Need-overflow_cast-tag
 cast-tag c = (tag c).cast
@@ -35,8 +35,8 @@ cast-tag c = (tag c).cast
 returns-2 : tie.Need-returns-then-tag-ge-TAGS
 returns-2 c =
     let u = c.before in
-    let a = u.before.args in
-    by_tag u (high_tag (tag u).number a.d u.before.fits.d (rw (tag u).gives at c.if-tag-ge-TAGS.taken))
+    let a = u.args in
+    by_tag u (high_tag (tag u).number a.d u.ranges.d (rw (tag u).gives at c.if-tag-ge-TAGS.true))
 
 mul-if3 : tie.Need-offset_bounds-ranges-tag
 mul-if3 c = search rules
@@ -45,22 +45,22 @@ element-copy-out-if3 : tie.Need-bounds-ranges-tag
 element-copy-out-if3 c = search rules
 
 small : (c : tie.Else-tag-ge-TAGS) → (tag c.before).number < tags
-small c = let g = (tag c.before).gives in let h = c.if-tag-ge-TAGS.left in omega arith
+small c = let g = (tag c.before).gives in let h = c.if-tag-ge-TAGS.false in omega arith
 
 -- the datum is below the range, or not
 module _ (c : tie.After-t9-1) where
-  from : get_or c.before.before.before.args.ranges.now (nat_abs (to_z w64 (of_z w64 c.before.before.before.args.t))) (pos 0) ≡ get_or ground_leasts (tag c.before.before).number (pos 0)
-  from = ap₂ (λ (l : List ℤ) (n : ℕ). get_or l n (pos 0)) c.before.before.before.pre (tag c.before.before).gives ∙ least_at (tag c.before.before).number (small c.before)
+  from : get_or c.args.ranges.now (nat_abs (to_z w64 (of_z w64 c.args.t))) (pos 0) ≡ get_or ground_leasts (tag c.before.before).number (pos 0)
+  from = ap₂ (λ (l : List ℤ) (n : ℕ). get_or l n (pos 0)) c.requires (tag c.before.before).gives ∙ least_at (tag c.before.before).number (small c.before)
 
-  below : (r : Bool) → lt_z (to_z w64 (of_z w64 c.before.before.before.args.d)) (to_z w64 (of_z w64 (get_or c.before.before.before.args.ranges.now (nat_abs (to_z w64 (of_z w64 c.before.before.before.args.t))) (pos 0)))) ≡ r → lt_z c.before.before.before.args.d (get_or ground_leasts (tag c.before.before).number (pos 0)) ≡ r
+  below : (r : Bool) → lt_z (to_z w64 (of_z w64 c.args.d)) (to_z w64 (of_z w64 (get_or c.args.ranges.now (nat_abs (to_z w64 (of_z w64 c.args.t))) (pos 0)))) ≡ r → lt_z c.args.d (get_or ground_leasts (tag c.before.before).number (pos 0)) ≡ r
   below r h =
-      let d = c.before.before.before.args.d in
-      ap (lt_z d) (sym from) ∙ order d (get_or c.before.before.before.args.ranges.now (nat_abs (to_z w64 (of_z w64 c.before.before.before.args.t))) (pos 0)) r c.before.before.before.fits.d (sfits_of c.t9-1.given) h
+      let d = c.args.d in
+      ap (lt_z d) (sym from) ∙ order d (get_or c.args.ranges.now (nat_abs (to_z w64 (of_z w64 c.args.t))) (pos 0)) r c.ranges.d (sfits_of c.t9-1.given) h
 
 returns-3 : tie.Need-returns-then-d-ranges
 returns-3 c =
     let v = c.before.before.before in
-    by_tag v (low_datum (tag v).number v.before.args.d v.before.fits.d (below c.before true c.if-d-ranges.taken))
+    by_tag v (low_datum (tag v).number v.args.d v.ranges.d (below c.before true c.if-d-ranges.true))
 
 add-if4 : tie.Need-overflow_add-tag
 add-if4 c = search rules
@@ -73,29 +73,31 @@ element-copy-out-if4 c = search rules
 
 -- above it, or not
 module _ (c : tie.After-t9-2-1) where
-  to : get_or c.before.before.before.before.before.args.ranges.now (nat_abs (to_z w64 (of_z w64 c.before.before.before.before.before.args.t)) + tags) (pos 0) ≡ get_or ground_mosts (tag c.before.before.before.before).number (pos 0)
+  to : get_or c.args.ranges.now (nat_abs (to_z w64 (of_z w64 c.args.t)) + tags) (pos 0) ≡ get_or ground_mosts (tag c.before.before.before.before).number (pos 0)
   to =
       let n = (tag c.before.before.before.before).number in
-      ap₂ (λ (l : List ℤ) (n : ℕ). get_or l (n + tags) (pos 0)) c.before.before.before.before.before.pre (tag c.before.before.before.before).gives ∙ most_at n
+      ap₂ (λ (l : List ℤ) (n : ℕ). get_or l (n + tags) (pos 0)) c.requires (tag c.before.before.before.before).gives ∙ most_at n
 
-  above : (r : Bool) → lt_z (to_z w64 (of_z w64 (get_or c.before.before.before.before.before.args.ranges.now (nat_abs (to_z w64 (of_z w64 c.before.before.before.before.before.args.t)) + tags) (pos 0)))) (to_z w64 (of_z w64 c.before.before.before.before.before.args.d)) ≡ r → lt_z (get_or ground_mosts (tag c.before.before.before.before).number (pos 0)) c.before.before.before.before.before.args.d ≡ r
+  above : (r : Bool) → lt_z (to_z w64 (of_z w64 (get_or c.args.ranges.now (nat_abs (to_z w64 (of_z w64 c.args.t)) + tags) (pos 0)))) (to_z w64 (of_z w64 c.args.d)) ≡ r → lt_z (get_or ground_mosts (tag c.before.before.before.before).number (pos 0)) c.args.d ≡ r
   above r h =
-      let d = c.before.before.before.before.before.args.d in
-      ap (λ (z : ℤ). lt_z z d) (sym to) ∙ order (get_or c.before.before.before.before.before.args.ranges.now (nat_abs (to_z w64 (of_z w64 c.before.before.before.before.before.args.t)) + tags) (pos 0)) d r (sfits_of c.t9-2-1.given) c.before.before.before.before.before.fits.d h
+      let d = c.args.d in
+      ap (λ (z : ℤ). lt_z z d) (sym to) ∙ order (get_or c.args.ranges.now (nat_abs (to_z w64 (of_z w64 c.args.t)) + tags) (pos 0)) d r (sfits_of c.t9-2-1.given) c.ranges.d h
 
 returns-4 : tie.Need-returns-then-ranges-tag
 returns-4 c =
     let v = c.before.before.before.before.before in
-    by_tag v (high_datum (tag v).number v.before.args.d v.before.fits.d (above c.before true c.if-ranges-tag.taken))
+    by_tag v (high_datum (tag v).number v.args.d v.ranges.d (above c.before true c.if-ranges-tag.true))
 
 returns-5 : tie.Need-returns
 returns-5 c =
     let u = c.before.before.before.before in
     let v = u.before in
-    by_tag v (in_range (tag v).number v.before.args.d (small u) (record { low = below c.before.before.before false c.before.before.if-d-ranges.left; high = above c.before false c.if-ranges-tag.left }))
+    by_tag v (in_range (tag v).number v.args.d (small u) (record { low = below c.before.before.before false c.if-d-ranges.false; high = above c.before false c.if-ranges-tag.false }))
 
 pub in_range_spec : {M : Type 1} → statement M
-in_range_spec = tie.close (tie.spec
+in_range_spec =
+    tie.close
+    (tie.spec
     returns
     cast-tag
     returns-2

@@ -12,13 +12,15 @@ enum_told : tie.Need-enum_told-1
 enum_told c = search rules
 
 returns : tie.Need-returns-in-At
-returns c = sym (ap met_at c.before.p-1.given.1)
+returns c = sym (ap met_at c.in-At.is)
 
 returns-2 : tie.Need-returns-in-Nowhere
 returns-2 c = search rules
 
 pub met_spec : {M : Type 1} → statement M
-met_spec = tie.close (tie.spec
+met_spec =
+    tie.close
+    (tie.spec
     enum-known-p
     enum_told
     returns

@@ -34,13 +34,13 @@ sub-if1 c = search rules
 
 returns : tie.Need-returns-then-n-i-lt2 invariant-loop decreases-loop
 returns c =
-    let l = c.before.before.loop-k in
+    let l = c.loop-k in
     let v = l.invariant in
     let h = c.if-n-i-lt2.true in
     record {
       inside = v.1;
       few = v.2;
-      rest = v.3 ∙ sym (ground_terms_are c.before.before.before.args.s.now l.i l.k);
+      rest = v.3 ∙ sym (ground_terms_are c.args.s.now l.i l.k);
       none = v.4;
       stops = λ p q. absurd (let f : ⊥ = omega arith in f);
     }
@@ -55,42 +55,42 @@ word-requires-2 : tie.Need-word-d-requires invariant-loop decreases-loop
 word-requires-2 c κs = search rules
 
 in-range-requires : tie.Need-in_range-requires invariant-loop decreases-loop
-in-range-requires c κs = c.before.before.before.before.before.requires.2
+in-range-requires c κs = c.requires.2
 
 -- the node that stands at i, and what the test says of it
 module _ (c : tie.After-in_range invariant-loop decreases-loop) where
   abbrev words : List ℤ
-  words = c.before.before.before.before.before.before.args.s.now
+  words = c.args.s.now
 
   abbrev i : ℕ
-  i = c.before.before.before.before.before.loop-k.i
+  i = c.loop-k.i
 
-  tag : to_z w64 (of_z w64 c.before.before.word-t.result) ≡ get_or words i (pos 0)
+  tag : to_z w64 (of_z w64 c.word-t.result) ≡ get_or words i (pos 0)
   tag =
-      let f : SFits w64 c.before.before.word-t.result = search rules in
-      to_z-of_z w64 c.before.before.word-t.result f ∙ c.before.before.word-t.ensures
+      let f : SFits w64 c.word-t.result = search rules in
+      to_z-of_z w64 c.word-t.result f ∙ c.word-t.ensures
 
-  datum : to_z w64 (of_z w64 c.before.word-d.result) ≡ get_or words (i + 1) (pos 0)
+  datum : to_z w64 (of_z w64 c.word-d.result) ≡ get_or words (i + 1) (pos 0)
   datum =
-      let f : SFits w64 c.before.word-d.result = search rules in
-      to_z-of_z w64 c.before.word-d.result f ∙ c.before.word-d.ensures
+      let f : SFits w64 c.word-d.result = search rules in
+      to_z-of_z w64 c.word-d.result f ∙ c.word-d.ensures
 
   said : TaggedNode (get_or words i (pos 0)) (get_or words (i + 1) (pos 0)) c.in_range.result
   said = subst₂ (λ (x y : ℤ). TaggedNode x y c.in_range.result) tag datum c.in_range.ensures
 
   room : i + 2 ≤ length words
-  room = let v = c.before.before.before.before.before.loop-k.invariant in omega arith
+  room = let v = c.loop-k.invariant in omega arith
 
 returns-2 : tie.Need-returns-then-not-in_range invariant-loop decreases-loop
 returns-2 c =
-    let l = c.before.before.before.before.before.before.loop-k in
+    let l = c.loop-k in
     let v = l.invariant in
     record {
       inside = v.1;
       few = v.2;
       rest = v.3 ∙ sym (ground_terms_are (words c.before) l.i l.k);
       none = v.4;
-      stops = λ p q. subst (TaggedNode (get_or (words c.before) l.i (pos 0)) (get_or (words c.before) (l.i + 1) (pos 0))) (answered c.before.in_range.result false c.if-not-in_range.true-raw) (said c.before);
+      stops = λ p q. subst (TaggedNode (get_or (words c.before) l.i (pos 0)) (get_or (words c.before) (l.i + 1) (pos 0))) (answered c.in_range.result false c.if-not-in_range.true-raw) (said c.before);
     }
 
 sub-k : tie.Need-overflow_sub-k invariant-loop decreases-loop
@@ -105,13 +105,13 @@ module _ (c : tie.After-tag_children invariant-loop decreases-loop) where
   there = c.before.before
 
   here : Tagged (get_or (words there) (i there) (pos 0)) (get_or (words there) (i there + 1) (pos 0))
-  here = tagged (get_or (words there) (i there) (pos 0)) (get_or (words there) (i there + 1) (pos 0)) there.in_range.result (said there) c.before.if-not-in_range.false-raw
+  here = tagged (get_or (words there) (i there) (pos 0)) (get_or (words there) (i there + 1) (pos 0)) there.in_range.result (said there) c.if-not-in_range.false-raw
 
   count : c.tag_children.result ≡ tag_children (get_or (words there) (i there) (pos 0))
   count = c.tag_children.ensures ∙ ap tag_children (tag there)
 
 add-k : tie.Need-overflow_add-k invariant-loop decreases-loop
-add-k c = let e = count c in let q = (here c).few in let v = c.before.before.before.before.before.before.before.loop-k.invariant in search rules
+add-k c = let e = count c in let q = (here c).few in let v = c.loop-k.invariant in search rules
 
 add-i : tie.Need-overflow_add-i-in-loop-k invariant-loop decreases-loop
 add-i c = search rules
@@ -122,19 +122,19 @@ loop-less c = search rules
 loop-again : tie.Need-loop-k-preserved invariant-loop decreases-loop
 loop-again c =
     let u = c.before.before.before.before.before.before.before in
-    let s = u.before.args.s.now in
-    let at = u.before.args.at in
+    let s = u.args.s.now in
+    let at = u.args.at in
     let l = u.loop-k in
     let v = l.invariant in
     let e = count c in
     let q = (here c).few in
-    (refl, room (there c), omega arith, v.3 ∙ place_on ground_label s l.i l.k (room (there c)) c.before.before.before.before.before.before.loop-k-test.true c.tag_children.result (rw e (here c).children), none_joined s at l.i (l.i + 2) v.4 (none_here s l.i (here c).other))
+    (refl, room (there c), omega arith, v.3 ∙ place_on ground_label s l.i l.k (room (there c)) c.loop-k-test.true c.tag_children.result (rw e (here c).children), none_joined s at l.i (l.i + 2) v.4 (none_here s l.i (here c).other))
 
 returns-3 : tie.Need-returns invariant-loop decreases-loop
 returns-3 c =
-    let l = c.before.loop-k in
+    let l = c.loop-k in
     let v = l.invariant in
-    let s = c.before.before.args.s.now in
+    let s = c.args.s.now in
     let z : l.k ≡ 0 = let h = c.loop-k-test.false in omega arith in
     record {
       inside = v.1;
@@ -145,7 +145,9 @@ returns-3 c =
     }
 
 pub tagged_terms_spec : {M : Type 1} → statement M
-tagged_terms_spec = tie.close (tie.spec
+tagged_terms_spec =
+    tie.close
+    (tie.spec
     invariant-loop
     decreases-loop
     loop-holds

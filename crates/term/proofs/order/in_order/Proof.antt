@@ -32,8 +32,8 @@ loop-holds : tie.Need-loop-i-init invariant-loop decreases-loop
 loop-holds c = ordering_start c.requires
 
 -- two words are left
-room : (c : tie.In-loop-i invariant-loop decreases-loop) → c.before.loop-i.i + 2 ≤ length c.before.before.args.s.now
-room c = (front_words (ordering_here c.before.loop-i.invariant c.loop-i-test.true)).room
+room : (c : tie.In-loop-i invariant-loop decreases-loop) → c.loop-i.i + 2 ≤ length c.args.s.now
+room c = (front_words (ordering_here c.loop-i.invariant c.loop-i-test.true)).room
 
 word-requires : tie.Need-word-requires invariant-loop decreases-loop
 word-requires c κs = let r = room c in omega arith
@@ -50,24 +50,24 @@ word-requires-2 c κs = let r = room c.before.before in omega arith
 -- a dictionary stands at i, with so many entries
 module _ (c : tie.After-word-then-word-eq-DICTIONARY invariant-loop decreases-loop) where
   abbrev words : List ℤ
-  words = c.before.before.before.before.before.args.s.now
+  words = c.args.s.now
 
   abbrev i : ℕ
-  i = c.before.before.before.before.loop-i.i
+  i = c.loop-i.i
 
   abbrev count : ℕ
   count = nat_abs (to_z w64 (of_z w64 c.word-then-word-eq-DICTIONARY.result))
 
-  abbrev from_here : Ordering words c.before.before.before.before.before.args.from c.before.before.before.before.before.args.to i
-  from_here = c.before.before.before.before.loop-i.invariant
+  abbrev from_here : Ordering words c.args.from c.args.to i
+  from_here = c.loop-i.invariant
 
-  abbrev more_left : i < c.before.before.before.before.before.args.to
-  more_left = c.before.before.before.loop-i-test.true
+  abbrev more_left : i < c.args.to
+  more_left = c.loop-i-test.true
 
   tag : get_or words i (pos 0) ≡ pos dictionary_tag
   tag =
-      let f : SFits w64 c.before.before.word.result = search rules in
-      sym c.before.before.word.ensures ∙ same_bits c.before.before.word.result (pos dictionary_tag) f (record { sfits = lit< tt }) c.before.if-word-eq-DICTIONARY.true
+      let f : SFits w64 c.word.result = search rules in
+      sym c.word.ensures ∙ same_bits c.word.result (pos dictionary_tag) f (record { sfits = lit< tt }) c.if-word-eq-DICTIONARY.true
 
   number : Natural c.word-then-word-eq-DICTIONARY.result 0
   number =
@@ -97,18 +97,18 @@ add-i : tie.Need-overflow_add-i-in-loop-i invariant-loop decreases-loop
 add-i c = let r = room c.before.before in omega arith
 
 loop-less : tie.Need-loop-i-smaller invariant-loop decreases-loop
-loop-less c = let r = front_room (ordering_here c.before.before.before.loop-i.invariant c.before.before.loop-i-test.true) in let h = c.before.before.loop-i-test.true in omega arith
+loop-less c = let r = front_room (ordering_here c.loop-i.invariant c.loop-i-test.true) in let h = c.loop-i-test.true in omega arith
 
 -- on behind a dictionary in order, and behind any other node
-dictionary_on : (c : tie.Else-not-rises invariant-loop decreases-loop) → Ordering (words c.before.before) c.before.before.before.before.before.before.before.args.from c.before.before.before.before.before.before.before.args.to (i c.before.before + 2)
+dictionary_on : (c : tie.Else-not-rises invariant-loop decreases-loop) → Ordering (words c.before.before) c.args.from c.args.to (i c.before.before + 2)
 dictionary_on c =
     let v = c.before.before in
     ordering_next (from_here v) (more_left v) (tag v) (count v) (counted v) (said c.before true c.if-not-rises.false-raw)
 
-other_on : (c : tie.Else-word-eq-DICTIONARY invariant-loop decreases-loop) → Ordering c.before.before.before.before.args.s.now c.before.before.before.before.args.from c.before.before.before.before.args.to (c.before.before.before.loop-i.i + 2)
+other_on : (c : tie.Else-word-eq-DICTIONARY invariant-loop decreases-loop) → Ordering c.args.s.now c.args.from c.args.to (c.loop-i.i + 2)
 other_on c =
     let u = c.before.before in
-    ordering_other u.before.loop-i.invariant u.loop-i-test.true (λ e. c.if-word-eq-DICTIONARY.false (ap (of_z w64) (c.before.word.ensures ∙ e)))
+    ordering_other u.loop-i.invariant u.loop-i-test.true (λ e. c.if-word-eq-DICTIONARY.false (ap (of_z w64) (c.word.ensures ∙ e)))
 
 loop-again : tie.Need-loop-i-preserved invariant-loop decreases-loop
 loop-again c =
@@ -117,10 +117,12 @@ loop-again c =
     (λ w. other_on (record { before = c.before; if1 = w })) c.if-word-eq-DICTIONARY.branch
 
 returns-2 : tie.Need-returns invariant-loop decreases-loop
-returns-2 c = ordering_end c.before.loop-i.invariant c.loop-i-test.false
+returns-2 c = ordering_end c.loop-i.invariant c.loop-i-test.false
 
 pub in_order_spec : {M : Type 1} → statement M
-in_order_spec = tie.close (tie.spec
+in_order_spec =
+    tie.close
+    (tie.spec
     invariant-loop
     decreases-loop
     loop-holds

@@ -26,22 +26,24 @@ returns : tie.Need-returns-in-0-to-7
 returns c = let s = c.before.before in rw (to_z-of_z s.ranges.a, to_z-of_z s.ranges.x, to_z-of_z s.ranges.b, to_z-of_z s.ranges.y) at (c.on_truths.ensures (label_at s.args.c s.args.z))
 
 returns-2 : tie.Need-returns-in-8-to-9
-returns-2 c = let s = c.before.before.before in rw (to_z-of_z s.ranges.a, to_z-of_z s.ranges.x, to_z-of_z s.ranges.b, to_z-of_z s.ranges.y) at (c.arithmetic.ensures (label_at s.args.c s.args.z))
+returns-2 c = let s = c.before.before in rw (to_z-of_z s.ranges.a, to_z-of_z s.ranges.x, to_z-of_z s.ranges.b, to_z-of_z s.ranges.y) at (c.arithmetic.ensures (label_at s.args.c s.args.z))
 
 returns-3 : tie.Need-returns-in-10-to-12
-returns-3 c = let s = c.before.before.before.before in rw (to_z-of_z s.ranges.a, to_z-of_z s.ranges.x, to_z-of_z s.ranges.b, to_z-of_z s.ranges.y) at (c.comparison.ensures (label_at s.args.c s.args.z))
+returns-3 c = let s = c.before.before in rw (to_z-of_z s.ranges.a, to_z-of_z s.ranges.x, to_z-of_z s.ranges.b, to_z-of_z s.ranges.y) at (c.comparison.ensures (label_at s.args.c s.args.z))
 
 returns-4 : tie.Need-returns-in-13-to-15
-returns-4 c = let s = c.before.before.before.before.before in rw (to_z-of_z s.ranges.a, to_z-of_z s.ranges.x, to_z-of_z s.ranges.b, to_z-of_z s.ranges.y, to_z-of_z s.ranges.c, to_z-of_z s.ranges.z) at c.on_others.ensures
+returns-4 c = let s = c.before.before in rw (to_z-of_z s.ranges.a, to_z-of_z s.ranges.x, to_z-of_z s.ranges.b, to_z-of_z s.ranges.y, to_z-of_z s.ranges.c, to_z-of_z s.ranges.z) at c.on_others.ensures
 
 returns-5 : tie.Need-returns-in_default
 returns-5 c =
-    let f = c.before.before.before.before.before.requires.0 in
-    let g = c.before.before.before.before.before.requires.1 in
+    let f = c.requires.0 in
+    let g = c.requires.1 in
     c.an_error.ensures ∙ ap root_of (no_function_lem _ _ _ _ (omega arith))
 
 pub apply_spec : {M : Type 1} → statement M
-apply_spec = tie.close (tie.spec
+apply_spec =
+    tie.close
+    (tie.spec
     on-truths-requires
     arithmetic-requires
     comparison-requires

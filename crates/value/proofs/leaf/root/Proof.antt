@@ -18,35 +18,35 @@ abbrev TermIs : tie.Start → Term → Type 0
 TermIs s t = IsValue s.args.table.now s.args.configuration.now s.args.v t
 
 -- the term's words, by where the value is
-in_table : (c : tie.In-Table) (t : Term) → TermIs c.before.before.before t → RootThere c.before.before.before.args.table.now c.before.v-1.given.0.0 t
+in_table : (c : tie.In-Table) (t : Term) → TermIs c.before t → RootThere c.args.table.now c.in-Table.start t
 unfolding value_words
 in_table c t i =
-    let s = c.before.before.before in
-    root_there _ _ c.before.v-1.given.0.1.0 t i.good i.grounded (subst (λ (v : Value). value_words s.args.table.now s.args.configuration.now v ≡ encode (single t)) c.before.v-1.given.1 i.words)
+    let s = c.before in
+    root_there _ _ c.in-Table.field-1 t i.good i.grounded (subst (λ (v : Value). value_words s.args.table.now s.args.configuration.now v ≡ encode (single t)) c.in-Table.is i.words)
 
-in_configuration : (c : tie.In-Configuration) (t : Term) → TermIs c.before.before.before t → RootThere c.before.before.before.args.configuration.now c.before.v-in-Configuration-1.given.0.0 t
+in_configuration : (c : tie.In-Configuration) (t : Term) → TermIs c.before t → RootThere c.args.configuration.now c.in-Configuration.start t
 unfolding value_words
 in_configuration c t i =
-    let s = c.before.before.before in
-    root_there _ _ c.before.v-in-Configuration-1.given.0.1.0 t i.good i.grounded (subst (λ (v : Value). value_words s.args.table.now s.args.configuration.now v ≡ encode (single t)) c.before.v-in-Configuration-1.given.1 i.words)
+    let s = c.before in
+    root_there _ _ c.in-Configuration.field-1 t i.good i.grounded (subst (λ (v : Value). value_words s.args.table.now s.args.configuration.now v ≡ encode (single t)) c.in-Configuration.is i.words)
 
-computed : (c : tie.In-Computed) (t : Term) → TermIs c.before.before.before t → c.before.v-in-Computed-1.given.0.0 ∷ c.before.v-in-Computed-1.given.0.1.0 ∷ [] ≡ encode (single t)
+computed : (c : tie.In-Computed) (t : Term) → TermIs c.before t → c.in-Computed.tag ∷ c.in-Computed.datum ∷ [] ≡ encode (single t)
 unfolding value_words
 computed c t i =
-    let s = c.before.before.before in
-    subst (λ (v : Value). value_words s.args.table.now s.args.configuration.now v ≡ encode (single t)) c.before.v-in-Computed-1.given.1 i.words
+    let s = c.before in
+    subst (λ (v : Value). value_words s.args.table.now s.args.configuration.now v ≡ encode (single t)) c.in-Computed.is i.words
 
 enum-known-v : tie.Need-enum_known-v
 enum-known-v c = search rules
 
 root-at-requires : tie.Need-root_at-requires
-root-at-requires c κs = let p = c.before.before.before.requires in (in_table c p.term p.is).room
+root-at-requires c κs = let p = c.requires in (in_table c p.term p.is).room
 
 enum-known-v-2 : tie.Need-enum_known-v-in-Configuration-1
 enum-known-v-2 c = search rules
 
 root-at-requires-2 : tie.Need-root_at-requires-in-Configuration
-root-at-requires-2 c κs = let p = c.before.before.before.requires in (in_configuration c p.term p.is).room
+root-at-requires-2 c κs = let p = c.requires in (in_configuration c p.term p.is).room
 
 enum-known-v-3 : tie.Need-enum_known-v-in-Computed-1
 enum-known-v-3 c = search rules
@@ -59,12 +59,14 @@ returns-2 c = record { is = λ t i. subst⁻¹ (λ (r : Root). Head r t.label (t
 
 returns-3 : tie.Need-returns-in-Computed
 returns-3 c =
-    let f : SFits w64 c.before.v-in-Computed-1.given.0.0 = search rules in
-    let g : SFits w64 c.before.v-in-Computed-1.given.0.1.0 = search rules in
+    let f : SFits w64 c.in-Computed.tag = search rules in
+    let g : SFits w64 c.in-Computed.datum = search rules in
     record { is = λ t i. rw (to_z-of_z f, to_z-of_z g) (own_root _ _ t i.good i.grounded (computed c t i)) }
 
 pub root_spec : {M : Type 1} → statement M
-root_spec = tie.close (tie.spec
+root_spec =
+    tie.close
+    (tie.spec
     enum-known-v
     root-at-requires
     enum-known-v-2

@@ -11,14 +11,16 @@ enum_told c = search rules
 
 returns : tie.Need-returns-in-At
 unfolding configuration_part
-returns c = rw c.before.f-1.given.1
+returns c = rw c.in-At.is
 
 returns-2 : tie.Need-returns-in-Absent
 unfolding configuration_part
-returns-2 c = rw c.enum_told-1.given.1
+returns-2 c = rw c.in-Absent.is
 
 pub in_configuration_spec : {M : Type 1} → statement M
-in_configuration_spec = tie.close (tie.spec
+in_configuration_spec =
+    tie.close
+    (tie.spec
     enum-known-f
     enum_told
     returns

@@ -20,7 +20,7 @@ use Rattle.value.proofs.lookup.lookup.Tie as tie
 key_fits : (c : tie.After-root-key) → SFits w64 c.root-key.result.tag × SFits w64 c.root-key.result.datum
 key_fits c = (search rules, search rules)
 
-is_key : (c : tie.Else-key-ne-WHOLE) → same_whole c.before.before.before.root-key.result.tag (pos 2) ≡ true
+is_key : (c : tie.Else-key-ne-WHOLE) → same_whole c.root-key.result.tag (pos 2) ≡ true
 is_key c = tag_is _ 2 (key_fits c.before.before.before).0 (lit< tt) c.if-key-ne-WHOLE.false
 
 root-requires : tie.Need-root-key-requires
@@ -36,10 +36,10 @@ enum-known-d c = search rules
 
 find-requires : tie.Need-find-requires
 find-requires c κs =
-    let d = c.before.before in
-    let s = c.before.before.before.before.before.before.before.before in
+    let d = c.before in
+    let s = c.before.before.before.before.before.before in
     let p = s.requires.0 in
-    record { term = p.term; here = table_here _ s.args.configuration.now _ _ p.term (subst (λ (v : Value). IsValue s.args.table.now s.args.configuration.now v p.term) d.d-1.given.1 p.is) }
+    record { term = p.term; here = table_here _ s.args.configuration.now _ _ p.term (subst (λ (v : Value). IsValue s.args.table.now s.args.configuration.now v p.term) d.in-Table.is p.is) }
 
 in-table-requires : tie.Need-in_table-requires
 in-table-requires c κs = search rules
@@ -49,10 +49,10 @@ enum-known-d-2 c = search rules
 
 find-requires-2 : tie.Need-find-requires-in-Configuration
 find-requires-2 c κs =
-    let d = c.before.before in
-    let s = c.before.before.before.before.before.before.before.before in
+    let d = c.before in
+    let s = c.before.before.before.before.before.before in
     let p = s.requires.0 in
-    record { term = p.term; here = configuration_here s.args.table.now _ _ _ p.term (subst (λ (v : Value). IsValue s.args.table.now s.args.configuration.now v p.term) d.d-in-Configuration-1.given.1 p.is) }
+    record { term = p.term; here = configuration_here s.args.table.now _ _ _ p.term (subst (λ (v : Value). IsValue s.args.table.now s.args.configuration.now v p.term) d.in-Configuration.is p.is) }
 
 in-configuration-requires : tie.Need-in_configuration-requires
 in-configuration-requires c κs = search rules
@@ -63,31 +63,33 @@ enum_told c = search rules
 returns-2 : tie.Need-returns-in-Table
 returns-2 c =
     let f = c.before in
-    let d = f.before.before.before in
-    let e = d.before.before in
+    let d = f.before.before in
+    let e = d.before in
     let r = e.before.before.before in
     let s = r.before in
     subst⁻¹ (LookupContract s.args.table.now s.args.configuration.now s.args.d s.args.k) c.in_table.ensures
-    (lookup_table _ _ _ _ r.root-key.result r.root-key.ensures (is_key e) _ _ d.d-1.given.1 f.find.result (rw (to_z-of_z (key_fits r).1) at f.find.ensures))
+    (lookup_table _ _ _ _ r.root-key.result r.root-key.ensures (is_key e) _ _ d.in-Table.is f.find.result (rw (to_z-of_z (key_fits r).1) at f.find.ensures))
 
 returns-3 : tie.Need-returns-in-Configuration
 returns-3 c =
     let f = c.before in
-    let d = f.before.before.before in
-    let e = d.before.before in
+    let d = f.before.before in
+    let e = d.before in
     let r = e.before.before.before in
     let s = r.before in
     subst⁻¹ (LookupContract s.args.table.now s.args.configuration.now s.args.d s.args.k) c.in_configuration.ensures
-    (lookup_configuration _ _ _ _ r.root-key.result r.root-key.ensures (is_key e) _ _ d.d-in-Configuration-1.given.1 f.find-in-Configuration.result (rw (to_z-of_z (key_fits r).1) at f.find-in-Configuration.ensures))
+    (lookup_configuration _ _ _ _ r.root-key.result r.root-key.ensures (is_key e) _ _ d.in-Configuration.is f.find-in-Configuration.result (rw (to_z-of_z (key_fits r).1) at f.find-in-Configuration.ensures))
 
 returns-4 : tie.Need-returns-in-Computed
 returns-4 c =
-    let e = c.before.before in
+    let e = c.before in
     let r = e.before.before.before in
-    lookup_computed _ _ _ _ r.root-key.result r.root-key.ensures (is_key e) _ _ c.enum_told-1.given.1
+    lookup_computed _ _ _ _ r.root-key.result r.root-key.ensures (is_key e) _ _ c.in-Computed.is
 
 pub lookup_spec : {M : Type 1} → statement M
-lookup_spec = tie.close (tie.spec
+lookup_spec =
+    tie.close
+    (tie.spec
     root-requires
     returns
     enum-known-d

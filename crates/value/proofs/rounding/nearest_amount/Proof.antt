@@ -6,10 +6,10 @@ use Rattle.value.proofs.ShareLaw.{further, not_further, next_fits}
 use Rattle.value.proofs.rounding.nearest_amount.Statement.{statement}
 use Rattle.value.proofs.rounding.nearest_amount.Tie as tie
 
-div-low : tie.Need-nonzero-div-low
+div-low : tie.Need-nonzero_div-low
 div-low c = search rules
 
-rem-rest : tie.Need-nonzero-rem-rest
+rem-rest : tie.Need-nonzero_rem-rest
 rem-rest c = search rules
 
 mul-doubled : tie.Need-overflow_mul-doubled
@@ -27,16 +27,12 @@ returns c = let s = c.before in further (s.args.n / s.args.d) (s.args.n % s.args
 returns-2 : tie.Need-returns
 returns-2 c = let s = c.before in not_further (s.args.n / s.args.d) (s.args.n % s.args.d) s.args.d (omega arith)
 
-the-nonzero_div-low : tie.Need-nonzero_div-low
-the-nonzero_div-low c = search rules
-
-the-nonzero_rem-rest : tie.Need-nonzero_rem-rest
-the-nonzero_rem-rest c = search rules
-
 pub nearest_amount_spec : {M : Type 1} → statement M
-nearest_amount_spec = tie.close (tie.spec
-    the-nonzero_div-low
-    the-nonzero_rem-rest
+nearest_amount_spec =
+    tie.close
+    (tie.spec
+    div-low
+    rem-rest
     mul-doubled
     add-doubled
     add-result

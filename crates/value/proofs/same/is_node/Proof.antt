@@ -34,16 +34,16 @@ value_fits c = (search rules, search rules)
 node_fits : (c : tie.After-root_at-b) → SFits w64 c.root_at-b.result.tag × SFits w64 c.root_at-b.result.datum
 node_fits c = (search rules, search rules)
 
-node_head : (c : tie.After-root_at-b) → Head c.root_at-b.result c.before.before.requires.1.term.label (term_count c.before.before.requires.1.term.children)
-node_head c = let t = c.before.before.requires.1.term in subst⁻¹ (λ (r : Root). Head r t.label (term_count t.children)) c.root_at-b.ensures (node_there c.before.before).head
+node_head : (c : tie.After-root_at-b) → Head c.root_at-b.result c.requires.1.term.label (term_count c.requires.1.term.children)
+node_head c = let t = c.requires.1.term in subst⁻¹ (λ (r : Root). Head r t.label (term_count t.children)) c.root_at-b.ensures (node_there c.before.before).head
 
 -- a test of the roots is a test of the words
-decided : (c : tie.After-root_at-b) (b : Bool) → Decides b ((c.before.root-a.result.tag ≡ c.root_at-b.result.tag) × (c.before.root-a.result.datum ≡ c.root_at-b.result.datum)) → Decides b (value_words c.before.before.args.table.now c.before.before.args.configuration.now c.before.before.args.v ≡ value_words c.before.before.args.table.now c.before.before.args.configuration.now (Table c.before.before.args.at (c.before.before.args.at + 2)))
+decided : (c : tie.After-root_at-b) (b : Bool) → Decides b ((c.root-a.result.tag ≡ c.root_at-b.result.tag) × (c.root-a.result.datum ≡ c.root_at-b.result.datum)) → Decides b (value_words c.args.table.now c.args.configuration.now c.args.v ≡ value_words c.args.table.now c.args.configuration.now (Table c.args.at (c.args.at + 2)))
 decided c b d =
     let s = c.before.before in
     let p = s.requires.0 in
     rw (p.is.words, s.requires.1.is.words)
-    (roots_decide c.before.root-a.result c.root_at-b.result p.term s.requires.1.term (c.before.root-a.ensures.is p.term p.is) (node_head c) (one_node s.args.table.now s.args.at s.requires.1.term (node_words s)) b d)
+    (roots_decide c.root-a.result c.root_at-b.result p.term s.requires.1.term (c.root-a.ensures.is p.term p.is) (node_head c) (one_node s.args.table.now s.args.at s.requires.1.term (node_words s)) b d)
 
 root-requires : tie.Need-root-a-requires
 root-requires c κs = c.requires.0
@@ -63,12 +63,14 @@ returns-2 c =
     let g = node_fits r in
     decided r _
     (record {
-      yes = λ e. (same_bits _ _ f.0 g.0 c.before.before.before.before.if-a-b.false, same_bits _ _ f.1 g.1 (eqb-true _ _ e));
+      yes = λ e. (same_bits _ _ f.0 g.0 c.if-a-b.false, same_bits _ _ f.1 g.1 (eqb-true _ _ e));
       no = λ e q. eqb-false _ _ e (ap (of_z w64) q.1);
     })
 
 pub is_node_spec : {M : Type 1} → statement M
-is_node_spec = tie.close (tie.spec
+is_node_spec =
+    tie.close
+    (tie.spec
     root-requires
     root-at-requires
     returns

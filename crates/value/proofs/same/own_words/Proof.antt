@@ -14,15 +14,17 @@ enum-known-v c = search rules
 returns : tie.Need-returns-in-Computed
 unfolding own_words
 returns c =
-    let f : SFits w64 c.before.v-1.given.0.0 = search rules in
-    let g : SFits w64 c.before.v-1.given.0.1.0 = search rules in
-    rw (c.before.v-1.given.1, to_z-of_z f, to_z-of_z g)
+    let f : SFits w64 c.in-Computed.tag = search rules in
+    let g : SFits w64 c.in-Computed.datum = search rules in
+    rw (c.in-Computed.is, to_z-of_z f, to_z-of_z g)
 
 returns-2 : tie.Need-returns-in_default
-returns-2 c = sym (own_none c.before.args.v c.match.keys2)
+returns-2 c = sym (own_none c.args.v c.in_default.keys2)
 
 pub own_words_spec : {M : Type 1} → statement M
-own_words_spec = tie.close (tie.spec
+own_words_spec =
+    tie.close
+    (tie.spec
     enum-known-v
     returns
     returns-2)

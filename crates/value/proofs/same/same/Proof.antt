@@ -24,10 +24,12 @@ same-requires : tie.Need-same-requires
 same-requires c κs = search rules
 
 returns : tie.Need-returns
-returns c = rw (← c.before.before.before.words_of.ensures, ← c.before.words_of-2.ensures) c.same.ensures
+returns c = rw (← c.words_of.ensures, ← c.words_of-2.ensures) c.same.ensures
 
 pub same_spec : {M : Type 1} → statement M
-same_spec = tie.close (tie.spec
+same_spec =
+    tie.close
+    (tie.spec
     own-words-requires
     own-words-requires-2
     slice-aggregate-words-of

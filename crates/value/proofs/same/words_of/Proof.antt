@@ -13,13 +13,15 @@ part-requires c κs = search rules
 
 returns : tie.Need-returns-in-Computed
 unfolding value_words own_words
-returns c = c.before.before.requires.1 ∙ rw c.enum_told-1.given.1
+returns c = c.requires.1 ∙ rw c.in-Computed.is
 
 returns-2 : tie.Need-returns-in_default
-returns-2 c = c.part.ensures ∙ part_is _ _ c.before.before.args.v c.before.match.keys2
+returns-2 c = c.part.ensures ∙ part_is _ _ c.args.v c.in_default.keys2
 
 pub words_of_spec : {M : Type 1} → statement M
-words_of_spec = tie.close (tie.spec
+words_of_spec =
+    tie.close
+    (tie.spec
     enum_told
     part-requires
     returns

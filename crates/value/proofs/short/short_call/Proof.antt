@@ -43,10 +43,10 @@ module _ (s : tie.Start) (ends : List ℕ) (ρ : Valuation) (e x : Term) (k : Ca
   both = two_here _ _ _ _ _ ρ e x k (ap (λ (n : ℕ). (function_at n).arity) (sym (ap nat_abs k.datum)) ∙ s.requires.short.two)
 
   no_lookup : k.code ≡ looking → ⊥
-  no_lookup q = s.pre.short.no_lookup (ap nat_abs k.datum ∙ q)
+  no_lookup q = s.requires.short.no_lookup (ap nat_abs k.datum ∙ q)
 
   long_first : length (encode (single both.a)) ≡ 2
-  long_first = short_long _ _ _ _ _ ρ both.a both.x both.first s.pre.short.first
+  long_first = short_long _ _ _ _ _ ρ both.a both.x both.first s.requires.short.first
 
   second_at : HasValue s.args.table.now s.args.configuration.now s.args.starts.now ends (s.args.at + 4) ρ both.b both.y
   second_at =
@@ -55,7 +55,7 @@ module _ (s : tie.Start) (ends : List ℕ) (ρ : Valuation) (e x : Term) (k : Ca
       subst (λ (n : ℕ). HasValue s.args.table.now s.args.configuration.now s.args.starts.now ends n ρ both.b both.y) q both.second
 
   long_second : length (encode (single both.b)) ≡ 2
-  long_second = short_long _ _ _ _ _ ρ both.b both.y second_at s.pre.short.second
+  long_second = short_long _ _ _ _ _ ρ both.b both.y second_at s.requires.short.second
 
 room : (s : tie.Start) → s.args.at + 6 ≤ length s.args.table.now
 room s =
@@ -64,7 +64,7 @@ room s =
     let r = (head_words _ _ h.b.label h.b.children nil (second_at s _ _ _ _ k).placed.stands).room in
     omega arith
 
-code_is : (c : tie.After-word-code) (n : ℕ) → n < length functions → get_or c.before.args.table.now (c.before.args.at + 1) (pos 0) ≡ pos n → nat_abs (to_z w64 (of_z w64 c.word-code.result)) ≡ n
+code_is : (c : tie.After-word-code) (n : ℕ) → n < length functions → get_or c.args.table.now (c.args.at + 1) (pos 0) ≡ pos n → nat_abs (to_z w64 (of_z w64 c.word-code.result)) ≡ n
 code_is c n h d = abs_back c.word-code.result n (c.word-code.ensures ∙ d) (omega arith)
 
 -- the words handed over are words
@@ -136,7 +136,9 @@ returns c =
     }
 
 pub short_call_spec : {M : Type 1} → statement M
-short_call_spec = tie.close (tie.spec
+short_call_spec =
+    tie.close
+    (tie.spec
     add-word
     word-requires
     cast-code

@@ -11,12 +11,12 @@ use Rattle.value.proofs.update.entry_words.Statement.{statement}
 use Rattle.value.proofs.update.entry_words.Tie as tie
 
 -- the part has the value's words, two or more
-the_words : (c : tie.After-part-words) → c.part-words.result.now ≡ value_words c.before.before.args.table.now c.before.before.args.configuration.now c.before.before.args.v
-the_words c = c.part-words.ensures ∙ part_is _ _ c.before.before.args.v c.before.match.keys2
+the_words : (c : tie.After-part-words) → c.part-words.result.now ≡ value_words c.args.table.now c.args.configuration.now c.args.v
+the_words c = c.part-words.ensures ∙ part_is _ _ c.args.v c.in_default.keys2
 
 two : (c : tie.After-part-words) → 2 ≤ length c.part-words.result.now
 two c =
-    let h = c.before.before.requires in
+    let h = c.requires in
     let a = ap length (the_words c ∙ h.is.words) in
     let b = two_at_least h.term in
     omega arith
@@ -34,7 +34,7 @@ part-result-end : tie.Need-slice_bounds-result-end
 part-result-end c = search rules
 
 part-requires : tie.Need-part-words-requires
-part-requires c κs = c.before.requires.is.within
+part-requires c κs = c.requires.is.within
 
 sub-result-2 : tie.Need-slice_bounds-result-count-in_default
 sub-result-2 c = two c
@@ -47,14 +47,16 @@ part-result-end-2 c = search rules
 
 returns : tie.Need-returns-in-Computed
 unfolding value_words
-returns c = rw c.before.enum_told-1.given.1
+returns c = rw c.in-Computed.is
 
 returns-2 : tie.Need-returns-in_default
 returns-2 c =
-    take_all (length c.before.part-words.result.now - 2) (drop 2 c.before.part-words.result.now) (let a = length-drop 2 c.before.part-words.result.now in omega arith) ∙ ap (drop 2) (the_words c.before)
+    take_all (length c.part-words.result.now - 2) (drop 2 c.part-words.result.now) (let a = length-drop 2 c.part-words.result.now in omega arith) ∙ ap (drop 2) (the_words c.before)
 
 pub entry_words_spec : {M : Type 1} → statement M
-entry_words_spec = tie.close (tie.spec
+entry_words_spec =
+    tie.close
+    (tie.spec
     enum_told
     sub-result
     part-result-start

@@ -25,13 +25,13 @@ key_fits c = (search rules, search rules)
 head_fits : (c : tie.After-root-head) → SFits w64 c.root-head.result.tag
 head_fits c = search rules
 
-is_key : (c : tie.Else-key-ne-WHOLE) → same_whole c.before.before.before.root-key.result.tag (pos 2) ≡ true
+is_key : (c : tie.Else-key-ne-WHOLE) → same_whole c.root-key.result.tag (pos 2) ≡ true
 is_key c = tag_is _ 2 (key_fits c.before.before.before).0 (lit< tt) c.if-key-ne-WHOLE.false
 
-is_dictionary : (c : tie.Else-head-ne-DICTIONARY) → same_whole c.before.before.before.root-head.result.tag (pos 5) ≡ true
+is_dictionary : (c : tie.Else-head-ne-DICTIONARY) → same_whole c.root-head.result.tag (pos 5) ≡ true
 is_dictionary c = tag_is _ 5 (head_fits c.before.before.before) (lit< tt) c.if-head-ne-DICTIONARY.false
 
-counted : (c : tie.Else-head-ne-DICTIONARY) → (n : ℕ) × (c.before.before.before.root-head.result.datum ≡ pos n) × (n ≤ 64)
+counted : (c : tie.Else-head-ne-DICTIONARY) → (n : ℕ) × (c.root-head.result.datum ≡ pos n) × (n ≤ 64)
 counted c =
     let r = c.before.before.before in
     let s = r.before.before.before.before.before in
@@ -46,7 +46,7 @@ returns c =
     plan_no_key _ _ _ _ r.root-key.result r.root-key.ensures (tag_not _ 2 (key_fits r).0 (lit< tt) c.if-key-ne-WHOLE.true)
 
 root-requires-2 : tie.Need-root-head-requires
-root-requires-2 c κs = c.before.before.before.before.requires.0
+root-requires-2 c κs = c.requires.0
 
 returns-2 : tie.Need-returns-then-head-ne-DICTIONARY
 returns-2 c =
@@ -62,7 +62,7 @@ cast-slot-of c =
     let e = c.before.before.before in
     let n = counted e in
     let h = n.2 in
-    cast_ok w64 e.before.before.before.root-head.result.datum n.0 n.1 (omega arith) (record { fits = omega arith })
+    cast_ok w64 e.root-head.result.datum n.0 n.1 (omega arith) (record { fits = omega arith })
 
 slot-of-requires : tie.Need-slot_of-at-requires
 slot-of-requires c κs =
@@ -95,7 +95,9 @@ returns-3 c =
     (subst (λ (ws : List ℤ). SlotIs ws n.0 q.root-key.result.datum o.slot_of-at.result) w.entry_words-s.ensures a))
 
 pub plan_of_spec : {M : Type 1} → statement M
-plan_of_spec = tie.close (tie.spec
+plan_of_spec =
+    tie.close
+    (tie.spec
     root-requires
     returns
     root-requires-2

@@ -11,7 +11,7 @@ use Rattle.value.proofs.update.plan_size.Statement.{statement}
 use Rattle.value.proofs.update.plan_size.Tie as tie
 
 returns : tie.Need-returns-then-not-p
-returns c = sym (ap length (wrong_length _ c.before.before.args.p _ (not-true c.before.before.args.p.keeps c.if-not-p.true)))
+returns c = sym (ap length (wrong_length _ c.args.p _ (not-true c.args.p.keeps c.if-not-p.true)))
 
 entry-words-requires : tie.Need-entry_words-s-requires
 entry-words-requires c κs = search rules
@@ -27,15 +27,15 @@ size-requires c κs = let s = c.before.before.before.before in within_ordered _ 
 
 -- the sum is small
 module _ (c : tie.After-struct_known-3-1) where
-  small : 4 + c.before.before.before.before.before.before.args.p.from + c.before.size-n.result + (length c.before.before.before.entry_words-s.result.now - c.before.before.before.before.before.before.args.p.to) ≤ 6 + (length c.before.before.before.before.before.before.args.table.now + length c.before.before.before.before.before.before.args.configuration.now) + (length c.before.before.before.before.before.before.args.table.now + length c.before.before.before.before.before.before.args.configuration.now)
+  small : 4 + c.args.p.from + c.size-n.result + (length c.entry_words-s.result.now - c.args.p.to) ≤ 6 + (length c.args.table.now + length c.args.configuration.now) + (length c.args.table.now + length c.args.configuration.now)
   small =
       let s = c.before.before.before.before.before.before in
       let a = size_small s.args.table.now s.args.configuration.now s.args.v s.requires.1 in
       let b = behind_small s.args.table.now s.args.configuration.now s.args.d s.requires.0 in
-      let e = ap length c.before.before.before.entry_words-s.ensures in
+      let e = ap length c.entry_words-s.ensures in
       let f = s.requires.2.order in
       let g = s.requires.2.within in
-      let h : c.before.size-n.result ≡ size_of s.args.v = c.before.size-n.ensures in
+      let h : c.before.size.result ≡ size_of s.args.v = c.size-n.ensures in
       omega arith
 
 add-result : tie.Need-overflow_add-result
@@ -50,14 +50,16 @@ add-result-3 c = let h = small c in omega arith
 returns-2 : tie.Need-returns
 returns-2 c =
     let s = c.before.before.before.before.before.before in
-    let a = kept_length (value_words s.args.table.now s.args.configuration.now s.args.d) s.args.p (value_words s.args.table.now s.args.configuration.now s.args.v) (not-false s.args.p.keeps c.before.before.before.before.if-not-p.false) s.requires.2 in
-    let b : c.before.size-n.result ≡ size_of s.args.v = c.before.size-n.ensures in
+    let a = kept_length (value_words s.args.table.now s.args.configuration.now s.args.d) s.args.p (value_words s.args.table.now s.args.configuration.now s.args.v) (not-false s.args.p.keeps c.if-not-p.false) s.requires.2 in
+    let b : c.before.size.result ≡ size_of s.args.v = c.size-n.ensures in
     let d = size_is s.args.table.now s.args.configuration.now s.args.v s.requires.1 in
-    let e = ap length c.before.before.before.entry_words-s.ensures in
+    let e = ap length c.entry_words-s.ensures in
     omega arith
 
 pub plan_size_spec : {M : Type 1} → statement M
-plan_size_spec = tie.close (tie.spec
+plan_size_spec =
+    tie.close
+    (tie.spec
     returns
     entry-words-requires
     sub-behind

@@ -30,9 +30,9 @@ same_length c = search rules
 returns : tie.Need-returns
 returns c =
     let s = c.before.before.before.before.before.before.before.before.before in
-    let a = c.before.before.before.before.before.before.before.put-node in
-    let b = c.before.before.before.before.put-words in
-    let d = c.before.put-node2 in
+    let a = c.put_node-a in
+    let b = c.put_words-b in
+    let d = c.put_node in
     let p = s.requires.0 in
     let q = s.requires.1 in
     let t : to_z w64 s.args.count ≡ pos s.args.count = to_z_pos w64 (omega arith) in
@@ -42,7 +42,9 @@ returns c =
     put_then _ _ _ _ _ _ (pos 5 ∷ pos s.args.count ∷ s.args.words.now) (pos 2 ∷ s.args.key ∷ []) (omega arith) y z
 
 pub put_front_spec : {M : Type 1} → statement M
-put_front_spec = tie.close (tie.spec
+put_front_spec =
+    tie.close
+    (tie.spec
     cast-put-node
     put-node-requires
     put-words-requires

@@ -20,8 +20,8 @@ use Rattle.value.proofs.update.put_plan.Statement.{statement}
 use Rattle.value.proofs.update.put_plan.Tie as tie
 
 -- the plan keeps, where the dictionary's words are had
-keeps : (c : tie.After-entry_words-s) → c.before.before.before.args.p.keeps ≡ true
-keeps c = not-false c.before.before.before.args.p.keeps c.before.if-not-p.false
+keeps : (c : tie.After-entry_words-s) → c.args.p.keeps ≡ true
+keeps c = not-false c.args.p.keeps c.if-not-p.false
 
 -- the dictionary's words, and the value's
 module _ (s : tie.Start) where
@@ -32,10 +32,10 @@ module _ (s : tie.Start) where
   vs = value_words s.args.table.now s.args.configuration.now s.args.v
 
 abbrev front_of : tie.After-entry_words-s → List ℤ
-front_of w = (pos 5 ∷ pos w.before.before.before.args.p.count ∷ take w.before.before.before.args.p.from w.entry_words-s.result.now) ++ (pos 2 ∷ w.before.before.before.args.p.key ∷ [])
+front_of w = (pos 5 ∷ pos w.before.before.before.args.p.count ∷ take w.before.before.before.args.p.from w.entry_words.result.now) ++ (pos 2 ∷ w.before.before.before.args.p.key ∷ [])
 
 put-node-requires : tie.Need-put_node-requires
-put-node-requires c κs = let s = c.before.before.before in wrong_room s.args.out.now s.args.at (ds s) s.args.p (vs s) s.requires.3 (not-true s.args.p.keeps c.before.if-not-p.true)
+put-node-requires c κs = let s = c.before.before.before in wrong_room s.args.out.now s.args.at (ds s) s.args.p (vs s) s.requires.3 (not-true s.args.p.keeps c.if-not-p.true)
 
 same_length : tie.Need-shape_of-out-then-not-p
 same_length c = search rules
@@ -44,7 +44,7 @@ returns : tie.Need-returns-then-not-p
 returns c =
     let t = c.before.before.before in
     let s = t.before.before in
-    put_wrong s.args.out.now s.args.at (ds s) s.args.p (vs s) s.requires.3 (not-true s.args.p.keeps t.if-not-p.true) _ _ c.before.put_node.ensures
+    put_wrong s.args.out.now s.args.at (ds s) s.args.p (vs s) s.requires.3 (not-true s.args.p.keeps t.if-not-p.true) _ _ c.put_node.ensures
 
 entry-words-requires : tie.Need-entry_words-s-requires
 entry-words-requires c κs = search rules
@@ -52,34 +52,34 @@ entry-words-requires c κs = search rules
 slice-aggregate-put-front : tie.Need-slice_bounds-put_front-end
 slice-aggregate-put-front c =
     let w = c.before.before in
-    let s = w.before.before.before in
+    let s = w.before in
     sym (taken_length s.args.out.now s.args.at (ds s) s.args.p (vs s) s.requires.3 (keeps w) s.requires.2 w.entry_words-s.result.now w.entry_words-s.ensures)
 
 put-front-requires : tie.Need-put_front-a-requires
 put-front-requires c κs =
     let w = c.before.before.before in
-    let s = w.before.before.before in
+    let s = w.before in
     (s.requires.2.few, front_room s.args.out.now s.args.at (ds s) s.args.p (vs s) s.requires.3 (keeps w) s.requires.2 w.entry_words-s.result.now w.entry_words-s.ensures)
 
 -- the front is written; then the value
-fronted : (c : tie.After-put_front-a) → PutContract c.before.before.before.before.before.before.before.args.out.now c.before.before.before.before.before.before.before.args.at (front_of c.before.before.before.before) c.put_front-a.new.0 c.put_front-a.result
-fronted c = let g : SFits w64 c.before.before.before.before.before.before.before.args.p.key = search rules in rw (to_z-of_z g) at c.put_front-a.ensures
+fronted : (c : tie.After-put_front-a) → PutContract c.before.args.out.now c.before.args.at (front_of c.before.before.before.before) c.put_front-a.new.out c.put_front-a.result
+fronted c = let g : SFits w64 c.before.args.p.key = search rules in rw (to_z-of_z g) at c.put_front-a.ensures
 
 put-requires : tie.Need-put-e-requires
 put-requires c κs =
     let f = c.before.before in
     let w = f.before.before.before.before in
-    let s = w.before.before.before in
-    let a = value_room s.args.out.now s.args.at (ds s) s.args.p (vs s) s.requires.3 (keeps w) s.requires.2 w.entry_words-s.result.now w.entry_words-s.ensures f.put_front-a.new.0 f.put_front-a.result (fronted f) in
-    (s.requires.1, subst (λ (n : ℕ). f.put_front-a.result + n ≤ length f.put_front-a.new.0) (size_is _ _ s.args.v s.requires.1) a)
+    let s = w.before in
+    let a = value_room s.args.out.now s.args.at (ds s) s.args.p (vs s) s.requires.3 (keeps w) s.requires.2 w.entry_words-s.result.now w.entry_words-s.ensures f.put_front-a.new.out f.put_front-a.result (fronted f) in
+    (s.requires.1, subst (λ (n : ℕ). f.put_front-a.result + n ≤ length f.put_front-a.new.out) (size_is _ _ s.args.v s.requires.1) a)
 
-high : (w : tie.After-entry_words-s) → w.before.before.before.args.p.to ≤ length w.entry_words-s.result.now
+high : (w : tie.After-entry_words-s) → w.args.p.to ≤ length w.entry_words-s.result.now
 high w = let s = w.before.before.before in plan_high s.args.out.now s.args.at (ds s) s.args.p (vs s) s.requires.3 (keeps w) s.requires.2 w.entry_words-s.result.now w.entry_words-s.ensures
 
 mul-put-words : tie.Need-offset_bounds-s-to
 mul-put-words c =
     let w = c.before.before.before.before.before.before.before.before.before in
-    let s = w.before.before.before in
+    let s = w.before in
     let h = high w in
     let b = behind_small s.args.table.now s.args.configuration.now s.args.d s.requires.0 in
     let e = ap length w.entry_words-s.ensures in
@@ -99,8 +99,8 @@ put-words-requires c κs =
     let q = c.before.before.before in
     let f = q.before.before.before in
     let w = f.before.before.before.before in
-    let s = w.before.before.before in
-    last_room s.args.out.now s.args.at (ds s) s.args.p (vs s) s.requires.3 (keeps w) s.requires.2 w.entry_words-s.result.now w.entry_words-s.ensures f.put_front-a.new.0 f.put_front-a.result (fronted f) q.put-e.new.0 q.put-e.result q.put-e.ensures
+    let s = w.before in
+    last_room s.args.out.now s.args.at (ds s) s.args.p (vs s) s.requires.3 (keeps w) s.requires.2 w.entry_words-s.result.now w.entry_words-s.ensures f.put_front-a.new.out f.put_front-a.result (fronted f) q.put-e.new.out q.put-e.result q.put-e.ensures
 
 same-length-2 : tie.Need-shape_of-out
 same-length-2 c = search rules
@@ -111,11 +111,13 @@ returns-2 c =
     let q = l.before.before.before.before in
     let f = q.before.before.before in
     let w = f.before.before.before.before in
-    let s = w.before.before.before in
-    put_kept s.args.out.now s.args.at (ds s) s.args.p (vs s) s.requires.3 (keeps w) s.requires.2 w.entry_words-s.result.now w.entry_words-s.ensures f.put_front-a.new.0 f.put_front-a.result (fronted f) q.put-e.new.0 q.put-e.result q.put-e.ensures _ _ l.put_words.ensures
+    let s = w.before in
+    put_kept s.args.out.now s.args.at (ds s) s.args.p (vs s) s.requires.3 (keeps w) s.requires.2 w.entry_words-s.result.now w.entry_words-s.ensures f.put_front-a.new.out f.put_front-a.result (fronted f) q.put-e.new.out q.put-e.result q.put-e.ensures _ _ l.put_words.ensures
 
 pub put_plan_spec : {M : Type 1} → statement M
-put_plan_spec = tie.close (tie.spec
+put_plan_spec =
+    tie.close
+    (tie.spec
     put-node-requires
     same_length
     returns

@@ -97,5 +97,7 @@ the-returns : tie.Need-returns
 the-returns c = search rules
 
 pub new_spec : {M : Type 1} → statement M
-new_spec = tie.close (tie.spec
+new_spec =
+    tie.close
+    (tie.spec
     the-returns)

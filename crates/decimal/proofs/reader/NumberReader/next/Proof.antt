@@ -218,6 +218,8 @@ the-returns : tie.Need-returns
 the-returns c = search rules
 
 pub next_spec : {M : Type 1} → statement M
-next_spec = tie.close (tie.spec
+next_spec =
+    tie.close
+    (tie.spec
     the-number_from-reading-requires
     the-returns)
