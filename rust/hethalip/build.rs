@@ -18,7 +18,7 @@ fn link() {
     println!("cargo::rerun-if-changed={}", library.display());
     if !library.is_file() {
         println!(
-            "cargo::error=there is no {}: build it with `rt staticlib hethalip`, or say its folder in HETHALIP_LIB_DIR, or leave it out with --no-default-features",
+            "cargo::error=there is no {}: build it with `tools/library`, or say its folder in HETHALIP_LIB_DIR, or leave it out with --no-default-features",
             library.display()
         );
     }

@@ -1,5 +1,6 @@
 // The run (document 01): the step repeated, its count held against a budget. Two lent slices take turns: each step reads one and writes the other.
 #![tactic(auto)]
+
 ghost use Rattle.std.specs.Prelude.{◌≡◌, ◌*◌, ◌/◌, ◌≤◌, length, take};
 ghost use Rattle.minuska.specs.Contract.{RunContract};
 ghost use Rattle.minuska.specs.Slice.{write};

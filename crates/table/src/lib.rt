@@ -1,5 +1,6 @@
 // The table's check, and the index: where the parts of each rule stand.
 #![tactic(auto)]
+
 mod expression;
 mod fill;
 pub mod index;

@@ -1,5 +1,6 @@
 // Terms in words: a node's child count, the end of a term, the configuration check, the part that is a subterm.
 #![tactic(auto)]
+
 ghost use Rattle.std.specs.Prelude.{◌≡◌, ◌<◌, pos, length, get_or};
 ghost use Rattle.minuska.specs.Bridge.Place.{GroundAt, GroundEnds};
 ghost use Rattle.minuska.specs.Computed.Read.{plain_children};

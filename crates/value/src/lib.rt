@@ -1,5 +1,6 @@
 // The value of an expression over a lent table and a lent configuration, and a side condition.
 #![tactic(auto)]
+
 ghost use Rattle.std.specs.Prelude.{◌≡◌, ◌+◌, ◌≤◌, length};
 ghost use Rattle.value.specs.Value.{value_words, part_words, Within, size_of, Ordered};
 ghost use Rattle.value.specs.Evaluate.{ExpressionIn, EvaluateContract, ConditionIn, ConditionContract};

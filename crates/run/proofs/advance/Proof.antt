@@ -70,7 +70,7 @@ next c =
     let j = c.judge-progress in
     reached_more a.table.now a.configuration.now a.budget a.limit a.out.now a.spare.now l.side l.nodes l.k l.out l.spare l.invariant
     b.step_across-answer.new.out b.step_across-answer.new.spare b.step_across-answer.result b.step_across-answer.ensures c.in-On.made
-    (sym j.ensures ∙ c.in-On.is) b.step_across-answer.auto.1.1.1.1.1.1.0 b.step_across-answer.auto.1.1.1.1.1.1.1.0 (words_fit s).0 (words_fit s).1
+    (sym j.ensures ∙ c.in-On.is) b.step_across-answer.auto.out b.step_across-answer.auto.spare (words_fit s).0 (words_fit s).1
 
 add-k : tie.Need-overflow_add-k invariant-loop decreases-loop
 add-k c =
@@ -91,12 +91,12 @@ enum-known-progress-2 c = search rules
 same_length : tie.Need-shape_of-out-in-End invariant-loop decreases-loop
 same_length c =
     let b = c.before.before.before.before in
-    b.step_across-answer.auto.1.1.1.1.1.1.0 ∙ b.loop-made.invariant.out_long
+    b.step_across-answer.auto.out ∙ b.loop-made.invariant.out_long
 
 same-length-2 : tie.Need-shape_of-spare-in-End invariant-loop decreases-loop
 same-length-2 c =
     let b = c.before.before.before.before in
-    b.step_across-answer.auto.1.1.1.1.1.1.1.0 ∙ b.loop-made.invariant.spare_long
+    b.step_across-answer.auto.spare ∙ b.loop-made.invariant.spare_long
 
 returns : tie.Need-returns-in-End invariant-loop decreases-loop
 returns c =

@@ -32,12 +32,12 @@ enum_told c = search rules
 
 slice-aggregate-copy : tie.Need-slice_bounds-copy-end
 slice-aggregate-copy c =
-    let h = fits c.before Initial c.in-Initial.is in
+    let h = fits c.before.before Initial c.in-Initial.is in
     simp length-take (omega arith)
 
 copy-requires : tie.Need-copy-requires
 copy-requires c κs =
-    let h = fits c.before Initial c.in-Initial.is in
+    let h = fits c.before.before Initial c.in-Initial.is in
     simp length-take (omega arith)
 
 enum-told-2 : tie.Need-enum_told-in-Out
@@ -48,12 +48,12 @@ enum-told-3 c = search rules
 
 slice-aggregate-copy-2 : tie.Need-slice_bounds-copy-end-in-Spare
 slice-aggregate-copy-2 c =
-    let h = fits c.before Spare c.in-Spare.is in
+    let h = fits c.before.before Spare c.in-Spare.is in
     simp length-take (omega arith)
 
 copy-requires-2 : tie.Need-copy-requires-in-Spare
 copy-requires-2 c κs =
-    let h = fits c.before Spare c.in-Spare.is in
+    let h = fits c.before.before Spare c.in-Spare.is in
     simp length-take (omega arith)
 
 same_length : tie.Need-shape_of-out-in-Initial

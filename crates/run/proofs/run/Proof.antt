@@ -26,9 +26,9 @@ returns : tie.Need-returns-in-Refused
 returns c =
     let b = c.before in
     let a = b.args in
-    let n = c.number-1.given in
-    turned_back_lem a.table.now a.configuration.now a.budget a.limit a.out.now a.spare.now n.0.0
-    (early_refused a.table.now a.configuration.now a.budget a.limit (length a.out.now) (length a.spare.now) n.0.0 (sym b.accept.ensures.answer ∙ n.1))
+    let n = c.in-Refused in
+    turned_back_lem a.table.now a.configuration.now a.budget a.limit a.out.now a.spare.now n.number
+    (early_refused a.table.now a.configuration.now a.budget a.limit (length a.out.now) (length a.spare.now) n.number (sym b.accept.ensures.answer ∙ n.is))
 
 enum_told : tie.Need-enum_told-1
 enum_told c = search rules
@@ -61,9 +61,9 @@ returns-2 c =
     let z = c.before in
     let d = z.before.before in
     let a = d.args in
-    let n = c.number-in-Refused-check_sizes-1.given in
-    turned_back_lem a.table.now a.configuration.now a.budget a.limit a.out.now a.spare.now n.0.0
-    (late_refused a.table.now a.configuration.now a.budget a.limit (length a.out.now) (length a.spare.now) (indexed d).table (accepted d).term (indexed d).is (accepted d).is n.0.0 (sizes z _ n.1))
+    let n = c.in-Refused-check_sizes in
+    turned_back_lem a.table.now a.configuration.now a.budget a.limit a.out.now a.spare.now n.number
+    (late_refused a.table.now a.configuration.now a.budget a.limit (length a.out.now) (length a.spare.now) (indexed d).table (accepted d).term (indexed d).is (accepted d).is n.number (sizes z _ n.is))
 
 enum-told-2 : tie.Need-enum_told-in_default-check_sizes
 enum-told-2 c = search rules

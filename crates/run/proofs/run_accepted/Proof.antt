@@ -36,7 +36,7 @@ returns c =
     let d = c.before.before.before.before.before.before.before in
     let a = d.args in
     ended a.table.now a.configuration.now a.budget a.limit a.out.now a.spare.now d.advance-ended.result d.advance-ended.new.out d.advance-ended.new.spare
-    f.new.1.1.1.1.0 f.new.1.1.1.1.1.0 d.advance-ended.ensures f.ensures
+    f.new.out f.new.spare d.advance-ended.ensures f.ensures
 
 pub run_accepted_spec : {M : Type 1} → statement M
 run_accepted_spec =

@@ -25,7 +25,7 @@ enum-told-2 c = search rules
 
 step-into-requires-2 : tie.Need-step_into-requires-in-Out
 step-into-requires-2 c κs =
-    let b = c.before in
+    let b = c.before.before in
     (b.requires.0, reads_from b Out c.in-Out.is, b.requires.3)
 
 enum-told-3 : tie.Need-enum_told-in-Spare
@@ -33,7 +33,7 @@ enum-told-3 c = search rules
 
 step-into-requires-3 : tie.Need-step_into-requires-in-Spare
 step-into-requires-3 c κs =
-    let b = c.before in
+    let b = c.before.before in
     (b.requires.0, reads_from b Spare c.in-Spare.is, b.requires.2)
 
 same_length : tie.Need-shape_of-out-in-Initial
@@ -42,9 +42,8 @@ same_length c = search rules
 returns : tie.Need-returns-in-Initial
 returns c =
     let s = c.step_into in
-    let b = c.before.before.before.before in
-    let a = b.args in
-    across_at a.configuration.now a.out.now a.spare.now a.side a.table.now s.new.1.1.1.1.0 a.spare.now a.nodes a.words s.result Initial
+    let a = c.args in
+    across_at a.configuration.now a.out.now a.spare.now a.side a.table.now s.new.to a.spare.now a.nodes a.words s.result Initial
     c.in-Initial.is s.ensures refl
 
 same-length-2 : tie.Need-shape_of-out-in-Out
@@ -56,9 +55,8 @@ same-length-3 c = search rules
 returns-2 : tie.Need-returns-in-Out
 returns-2 c =
     let s = c.step_into-in-Out in
-    let b = c.before in
-    let a = b.args in
-    across_at a.configuration.now a.out.now a.spare.now a.side a.table.now a.out.now s.new.1.1.1.1.0 a.nodes a.words s.result Out
+    let a = c.args in
+    across_at a.configuration.now a.out.now a.spare.now a.side a.table.now a.out.now s.new.to a.nodes a.words s.result Out
     c.in-Out.is s.ensures refl
 
 same-length-4 : tie.Need-shape_of-out-in-Spare
@@ -70,9 +68,8 @@ same-length-5 c = search rules
 returns-3 : tie.Need-returns-in-Spare
 returns-3 c =
     let s = c.step_into-in-Spare in
-    let b = c.before in
-    let a = b.args in
-    across_at a.configuration.now a.out.now a.spare.now a.side a.table.now s.new.1.1.1.1.0 a.spare.now a.nodes a.words s.result Spare
+    let a = c.args in
+    across_at a.configuration.now a.out.now a.spare.now a.side a.table.now s.new.to a.spare.now a.nodes a.words s.result Spare
     c.in-Spare.is s.ensures refl
 
 pub step_across_spec : {M : Type 1} → statement M

@@ -32,7 +32,7 @@ returns c =
     let b = c.before in
     let a = b.args in
     let l = length-take-le a.words a.to.now b.requires.2 in
-    steps_into a.table.now (take (2 * a.nodes) a.from.now) a.words a.to.now c.apply_earliest.new.out c.apply_earliest.result l c.apply_earliest.ensures (c.apply_earliest.auto.1.1.1.0 ∙ l)
+    steps_into a.table.now (take (2 * a.nodes) a.from.now) a.words a.to.now c.apply_earliest.new.out c.apply_earliest.result l c.apply_earliest.ensures (c.apply_earliest.auto.out ∙ l)
 
 pub step_into_spec : {M : Type 1} → statement M
 step_into_spec =

@@ -72,7 +72,7 @@ returns-8 c = rw c.in-17.is
 
 returns-9 : tie.Need-returns-in_default
 returns-9 c =
-    let r = c.in_default.rest in
+    let r = c.in_default.in_default-own.rest in
     others c.args.code c.requires r.0.0.0.0.0.0.0.1 r.0.0.0.0.0.0.1 r.0.0.0.0.0.1 r.0.0.0.0.1 r.0.0.0.1 r.0.0.1 r.0.1 r.1
 
 pub arity_spec : {M : Type 1} → statement M

@@ -26,7 +26,7 @@ abbrev decreases-loop : tie.decreases-loop-left
 decreases-loop s at i₀ left₀ i left = length s - i
 
 -- the turn at the node that stands at i, by the term that is required
-turn : (c : tie.In-loop-left invariant-loop decreases-loop) → Turn any_label c.args.s.now c.loop-left.i c.loop-left.false (c.args.at + length (encode (single c.requires.term)))
+turn : (c : tie.In-loop-left invariant-loop decreases-loop) → Turn any_label c.args.s.now c.loop-left.i c.loop-left.left (c.args.at + length (encode (single c.requires.term)))
 turn c =
     let s = c.args.s.now in
     let at = c.args.at in
@@ -43,7 +43,7 @@ module _ (c : tie.After-word-d invariant-loop decreases-loop) where
   abbrev i : ℕ
   i = c.loop-left.i
 
-  abbrev here : Turn any_label words i c.loop-left.false (c.args.at + length (encode (single c.requires.term)))
+  abbrev here : Turn any_label words i c.loop-left.left (c.args.at + length (encode (single c.requires.term)))
   here = turn c.before.before.before
 
   tag : to_z w64 (of_z w64 c.word-t.result) ≡ get_or words i (pos 0)

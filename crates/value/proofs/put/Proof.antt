@@ -22,7 +22,7 @@ unfolding size_of
 room c = subst (λ (v : Value). c.args.at + size_of v ≤ length c.args.out.now) c.in-Computed.is c.requires.1
 
 the_words : (c : tie.After-part-words) → c.part-words.result.now ≡ value_words c.args.table.now c.args.configuration.now c.args.v
-the_words c = c.part-words.ensures ∙ part_is _ _ c.args.v c.in_default.keys2
+the_words c = c.part-words.ensures ∙ part_is _ _ c.args.v c.before.in_default.in_default-own.keys2
 
 enum-known-v : tie.Need-enum_known-v
 enum-known-v c = search rules

@@ -87,7 +87,7 @@ enum-known-v : tie.Need-enum_known-v
 enum-known-v c = search rules
 
 element-copy-out-if2 : tie.Need-bounds-seen-v
-element-copy-out-if2 c = number_small (stands c.before (N.Variable c.in-Variable.v) c.in-Variable.is)
+element-copy-out-if2 c = number_small (subst (FoundAt c.args.table.now c.args.i) c.in-Variable.is c.node_at.ensures)
 
 add-t26 : tie.Need-overflow_add-result-then-seen-v
 add-t26 c = search rules
@@ -97,17 +97,12 @@ enum-told-3 c = search rules
 
 returns-4 : tie.Need-returns-in-At
 returns-4 c =
-    let v = c.before.before in
-    let u = v.before in
-    let g = c.e-1.given in
-    plain_on (stands u (N.Plain v.in-Plain.k) v.in-Plain.is) u.args.seen.now c.ground_terms.ensures g.0.0 g.0.1.0 g.1
+    plain_on (subst (FoundAt c.args.table.now c.args.i) c.in-Plain.is c.node_at.ensures) c.args.seen.now c.ground_terms.ensures c.in-At.e c.in-At.met c.in-At.is
 
 returns-5 : tie.Need-returns-in-At-ground_terms
 returns-5 c =
-    let v = c.before.before in
-    let u = v.before in
-    let g = c.e-in-At-ground_terms-2-1.given in
-    let t = (literal_on (stands u (N.Literal v.in-Literal.k) v.in-Literal.is) c.ground_terms-in-Literal.ensures g.0.0 g.0.1.0 g.1).at Expression u.args.seen.now in
+    let g = c.in-At-ground_terms in
+    let t = (literal_on (subst (FoundAt c.args.table.now c.args.i) c.in-Literal.is c.node_at.ensures) c.ground_terms-in-Literal.ensures g.e g.field-1 g.is).at Expression c.args.seen.now in
     record { turn = t.turn; order = t.order }
 
 returns-6 : tie.Need-returns-else-c-eq-UPDATE
@@ -118,15 +113,11 @@ returns-6 c =
 
 returns-7 : tie.Need-returns-then-seen-v
 returns-7 c =
-    let v = c.before.before.before in
-    let u = v in
-    flagged_on (stands u (N.Variable v.in-Variable.v) v.in-Variable.is) u.args.seen.now c.if-seen-v.true
+    flagged_on (subst (FoundAt c.args.table.now c.args.i) c.in-Variable.is c.node_at.ensures) c.args.seen.now c.if-seen-v.true
 
 returns-8 : tie.Need-returns-else-seen-v
 returns-8 c =
-    let v = c.before.before.before in
-    let u = v in
-    turn_refused (stands u (N.Variable v.in-Variable.v) v.in-Variable.is) Expression u.args.seen.now (ap (λ (b : Bool). cond b (B.Are Expression 0) B.Bad) c.if-seen-v.false)
+    turn_refused (subst (FoundAt c.args.table.now c.args.i) c.in-Variable.is c.node_at.ensures) Expression c.args.seen.now (ap (λ (b : Bool). cond b (B.Are Expression 0) B.Bad) c.if-seen-v.false)
 
 returns-9 : tie.Need-returns-in-Bad
 returns-9 c = let u = c.before in turn_none (stands u N.Bad c.in-Bad.is) Expression u.args.seen.now

@@ -77,9 +77,9 @@ put-requires c κs =
     let a = r.long in
     let b = r.few in
     let h = c.loop-rule-test.true in
-    let t = c.right-1 in
+    let t = c.in-At in
     let ws = c.args.table.now in
-    (omega arith, row_fits ws l.at t.given.0.0 t.given.0.1.0 t.given.0.1.1.0 t.given.0.1.1.1.0 t.given.0.1.1.1.1.0 (subst (RuleIs ws l.at) t.given.1 c.rule_parts.ensures) r.short)
+    (omega arith, row_fits ws l.at t.right t.conditions t.end t.fixed t.leaves (subst (RuleIs ws l.at) t.is c.rule_parts.ensures) r.short)
 
 add-rule : tie.Need-overflow_add-rule invariant-loop decreases-loop
 add-rule c = search rules

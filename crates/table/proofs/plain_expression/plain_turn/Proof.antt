@@ -42,7 +42,7 @@ enum-known-v : tie.Need-enum_known-v
 enum-known-v c = search rules
 
 element-copy-out-if2 : tie.Need-bounds-seen-v
-element-copy-out-if2 c = number_small (known c.before (N.Variable c.in-Variable.v) c.in-Variable.is)
+element-copy-out-if2 c = number_small (known c.before.before (N.Variable c.in-Variable.v) c.in-Variable.is)
 
 add-t20 : tie.Need-overflow_add-result-then-seen-v
 add-t20 c = search rules
@@ -76,9 +76,7 @@ returns-3 c =
 
 returns-4 : tie.Need-returns-then-seen-v
 returns-4 c =
-    let w = c.before.before in
-    let u = w.before in
-    flagged_on (known u (N.Variable w.in-Variable.v) w.in-Variable.is) u.args.seen.now c.if-seen-v.true
+    flagged_on (subst (KnownAt c.args.table.now c.args.i) c.in-Variable.is c.plain_node.ensures) c.args.seen.now c.if-seen-v.true
 
 returns-5 : tie.Need-returns-else-seen-v
 returns-5 c = tt

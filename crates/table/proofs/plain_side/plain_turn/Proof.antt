@@ -37,10 +37,8 @@ add-plain-end c = search rules
 
 plain-end-requires : tie.Need-plain_end-requires
 plain-end-requires c κs =
-    let v = c.before in
-    let u = v.before.before in
-    let h = (known u (N.Call v.in-Call.k v.in-Call.field-1) v.in-Call.is).0 in
-    (h.room, call_children h u.before.args.seen.now, u.before.requires.1)
+    let h = (subst (KnownAt c.args.table.now c.args.i) c.in-Call.is c.plain_node.ensures).0 in
+    (h.room, call_children h c.args.seen.now, c.requires.1)
 
 enum-known-e : tie.Need-enum_known-e
 enum-known-e c = search rules
@@ -49,13 +47,13 @@ enum_told : tie.Need-enum_told-1
 enum_told c = search rules
 
 returns-2 : tie.Need-returns-in_default
-returns-2 c = let a = c.before.args in kept_same (side_level a.left) a.seen.now
+returns-2 c = let a = c.args in kept_same (side_level a.left) a.seen.now
 
 enum-known-v : tie.Need-enum_known-v
 enum-known-v c = search rules
 
 takes-variable-requires : tie.Need-takes_variable-requires
-takes-variable-requires c κs = let w = c.before in number_small (known w.before (N.Variable w.in-Variable.v) w.in-Variable.is)
+takes-variable-requires c κs = number_small (subst (KnownAt c.args.table.now c.args.i) c.in-Variable.is c.plain_node.ensures)
 
 add-t20 : tie.Need-overflow_add-result-then-takes_variable
 add-t20 c = search rules
@@ -74,28 +72,20 @@ returns-3 c =
 
 returns-4 : tie.Need-returns-in-At
 returns-4 c =
-    let w = c.before.before in
-    let v = w.before in
-    let u = v.before.before in
-    let a = u.before.args in
-    let k = v.in-Call.k in
-    let h = known u (N.Call k v.in-Call.field-1) v.in-Call.is in
-    plain_call h.0 h.1 a.seen.now c.in-At.e (subst (PlainEndIs a.table.now (a.i + 2) k a.seen.now) c.in-At.is c.plain_end.ensures) a.left w.if-left.false
+    let a = c.args in
+    let k = c.in-Call.k in
+    let h = subst (KnownAt a.table.now a.i) c.in-Call.is c.plain_node.ensures in
+    plain_call h.0 h.1 a.seen.now c.in-At.e (subst (PlainEndIs a.table.now (a.i + 2) k a.seen.now) c.in-At.is c.plain_end.ensures) a.left c.if-left.false
 
 returns-5 : tie.Need-returns-then-takes_variable
 returns-5 c =
-    let w = c.before in
-    let x = w.before.before in
-    let u = x.before in
-    let a = u.args in
-    side_variable (known u (N.Variable x.in-Variable.v) x.in-Variable.is) (side_level a.left) a.seen.now w.takes_variable.ensures c.if-takes_variable.true
+    let a = c.args in
+    side_variable (subst (KnownAt a.table.now a.i) c.in-Variable.is c.plain_node.ensures) (side_level a.left) a.seen.now c.takes_variable.ensures c.if-takes_variable.true
 
 returns-6 : tie.Need-returns-else-takes_variable
 returns-6 c =
-    let w = c.before in
-    let x = w.before.before in
-    let a = x.args in
-    kept_flags (side_level a.left) x.in-Variable.v a.seen.now w.takes_variable.ensures.leaves
+    let a = c.args in
+    kept_flags (side_level a.left) c.in-Variable.v a.seen.now c.takes_variable.ensures.leaves
 
 returns-7 : tie.Need-returns-in-Literal
 returns-7 c = let a = c.args in kept_same (side_level a.left) a.seen.now

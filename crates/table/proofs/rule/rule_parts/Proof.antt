@@ -154,10 +154,10 @@ returns-8 c =
     let count = c.natural-count.result in
     let conditions = c.in-At-right_part.conditions in
     let end = c.in-At-conditions_end.end in
-    let g = c.conditions-1.given in
+    let g = c.in-At-right_part in
     rule_good ws at count (head c.before.before.before.before.before.before.before.before.before) c.in-At.right (left_at c.before.before.before.before.before.before) conditions (right_at c.before.before.before) end
     (placed_at end (conditions_end count ws (part_seen ws (left_from at) Left unseen) conditions) (sym c.in-At-conditions_end.is ∙ conditions_are c.before))
-    g.0.1.0 g.0.1.1.0 (c.right_part.ensures.sizes conditions g.0.1.0 g.0.1.1.0 g.1)
+    g.fixed g.leaves (c.right_part.ensures.sizes conditions g.fixed g.leaves g.is)
 
 pub rule_parts_spec : {M : Type 1} → statement M
 rule_parts_spec =

@@ -49,15 +49,13 @@ returns c =
 
 call-turn-requires : tie.Need-call_turn-requires
 call-turn-requires c κs =
-    let v = c.before in
-    let u = v.before.before in
-    (stands u (N.Call v.in-Call.k v.in-Call.c) v.in-Call.is, u.before.requires.1)
+    (subst (FoundAt c.args.table.now c.args.i) c.in-Call.is c.node_at.ensures, c.requires.1)
 
 enum-known-v : tie.Need-enum_known-v
 enum-known-v c = search rules
 
 takes-variable-requires : tie.Need-takes_variable-requires
-takes-variable-requires c κs = let w = c.before in number_small (stands w.before (N.Variable w.in-Variable.v) w.in-Variable.is)
+takes-variable-requires c κs = number_small (subst (FoundAt c.args.table.now c.args.i) c.in-Variable.is c.node_at.ensures)
 
 add-t19 : tie.Need-overflow_add-result-then-takes_variable
 add-t19 c = search rules
@@ -76,25 +74,18 @@ returns-3 c = let a = c.args in c.literal_turn.ensures.at (side_level a.left) a.
 
 returns-4 : tie.Need-returns-else-left
 returns-4 c =
-    let w = c.before in
-    let a = w.before.args in
-    subst⁻¹ (λ (b : Bool). SideTurnIs a.table.now (side_level b) a.i a.seen.now a.seen.now c.call_turn.result) w.if-left.false c.call_turn.ensures
+    let a = c.args in
+    subst⁻¹ (λ (b : Bool). SideTurnIs a.table.now (side_level b) a.i a.seen.now a.seen.now c.call_turn.result) c.if-left.false c.call_turn.ensures
 
 returns-5 : tie.Need-returns-then-takes_variable
 returns-5 c =
-    let w = c.before in
-    let x = w.before.before in
-    let u = x.before in
-    let a = u.args in
-    side_variable (stands u (N.Variable x.in-Variable.v) x.in-Variable.is) (side_level a.left) a.seen.now w.takes_variable.ensures c.if-takes_variable.true
+    let a = c.args in
+    side_variable (subst (FoundAt c.args.table.now c.args.i) c.in-Variable.is c.node_at.ensures) (side_level a.left) a.seen.now c.takes_variable.ensures c.if-takes_variable.true
 
 returns-6 : tie.Need-returns-else-takes_variable
 returns-6 c =
-    let w = c.before in
-    let x = w.before.before in
-    let u = x.before in
-    let a = u.args in
-    variable_refused (stands u (N.Variable x.in-Variable.v) x.in-Variable.is) (side_level a.left) a.seen.now w.takes_variable.ensures c.if-takes_variable.false
+    let a = c.args in
+    variable_refused (subst (FoundAt c.args.table.now c.args.i) c.in-Variable.is c.node_at.ensures) (side_level a.left) a.seen.now c.takes_variable.ensures c.if-takes_variable.false
 
 returns-7 : tie.Need-returns-in-Bad
 returns-7 c =

@@ -2,7 +2,6 @@
 use mathlib.Core.Path.{◌≡◌, sym, ◌∙◌, ap, subst}
 use mathlib.Core.Bool.{Bool, true, false, not}
 use mathlib.Core.List.{List}
-use mathlib.Core.Logic.{⊎_elim}
 use Prim.Native.Nat.{ℕ, ◌+◌, ◌-◌, ◌≤◌, ◌<◌}
 use native.Mathlib.Omega.{arith}
 use borrow.Author.Rules.{rules}
@@ -20,6 +19,7 @@ use Rattle.term.proofs.MetLaw.{answered}
 use Rattle.term.proofs.SignedLaw.{Natural, natural, same_bits}
 use Rattle.term.proofs.OrderLaw.{Ordering, ordering_start, ordering_end, ordering_here, ordering_other, ordering_entries, ordering_stop, ordering_next, front_words, front_room, front_dictionary, front_count}
 use Rattle.term.proofs.order.in_order.Statement.{statement}
+use Rattle.term.proofs.order.in_order.Lts.{then-word-eq-DICTIONARY+else-not-rises, else-word-eq-DICTIONARY}
 use Rattle.term.proofs.order.in_order.Tie as tie
 
 abbrev invariant-loop : tie.invariant-loop-i
@@ -112,9 +112,10 @@ other_on c =
 
 loop-again : tie.Need-loop-i-preserved invariant-loop decreases-loop
 loop-again c =
-    ⊎_elim
-    (λ w. dictionary_on (record { before = record { before = record { before = record { before = c.before; if1 = w.0 }; word2 = w.1 }; rises = w.2 }; if2 = w.3 }))
-    (λ w. other_on (record { before = c.before; if1 = w })) c.if-word-eq-DICTIONARY.branch
+    elim c.if-word-eq-DICTIONARY.branch [
+      | then-word-eq-DICTIONARY+else-not-rises w ↦ dictionary_on (record { before = record { before = record { before = record { before = c.before; if-word-eq-DICTIONARY = w.if-word-eq-DICTIONARY }; word-then-word-eq-DICTIONARY = w.word-then-word-eq-DICTIONARY }; rises = w.rises }; if-not-rises = w.if-not-rises })
+      | else-word-eq-DICTIONARY w ↦ other_on (record { before = c.before; if-word-eq-DICTIONARY = w.if-word-eq-DICTIONARY })
+    ]
 
 returns-2 : tie.Need-returns invariant-loop decreases-loop
 returns-2 c = ordering_end c.loop-i.invariant c.loop-i-test.false

@@ -78,7 +78,7 @@ abbrev A-start : ℕ → Type 0
 A-start t = arguments-lts.Start (arguments_known t) (arguments_at t) arguments.Post
 
 abbrev A-some : ℕ → Type 0
-A-some t = arguments-lts.Then1 (arguments_known t) (arguments_at t) arguments.Post
+A-some t = arguments-lts.Then-wanted (arguments_known t) (arguments_at t) arguments.Post
 
 abbrev A-read : ℕ → Type 0
 A-read t = arguments-lts.After-word (arguments_known t) (arguments_at t) arguments.Post
@@ -87,13 +87,13 @@ abbrev ValuesAt : (t : ℕ) → A-start t → Valuation → Forest → Forest �
 ValuesAt t s ρ es xs = HaveValues s.args.table.now s.args.configuration.now s.args.starts.now s.args.ends.now s.args.at ρ es xs
 
 some_more : (t : ℕ) (c : A-some t) (ρ : Valuation) (es xs : Forest) → ValuesAt t c.before ρ es xs → c.before.args.wanted ≡ ltb 0 (term_count es) → MoreHere c.before.args.table.now c.before.args.configuration.now c.before.args.starts.now c.before.args.ends.now c.before.args.at ρ es xs
-some_more t c ρ es xs w n = is_more _ _ _ _ _ ρ es xs w (sym c.if1.true ∙ n)
+some_more t c ρ es xs w n = is_more _ _ _ _ _ ρ es xs w (sym c.if-wanted.true ∙ n)
 
 the_more : (t : ℕ) (c : A-some t) → MoreHere c.before.args.table.now c.before.args.configuration.now c.before.args.starts.now c.before.args.ends.now c.before.args.at c.before.requires.1.valuation c.before.requires.1.expressions c.before.requires.1.terms
 the_more t c = let p = c.before.requires.1 in some_more t c _ _ _ p.have p.some
 
-arguments_returns_3 : (t : ℕ) → arguments-lts.Need-returns-3 (arguments_known t) (arguments_at t) arguments.Post
-arguments_returns_3 t c = record { meant = λ ρ es xs w n. none_first _ _ _ _ _ ρ es xs (no_more _ _ _ _ _ ρ es xs w (sym c.if1.false ∙ n)) }
+arguments_returns_3 : (t : ℕ) → arguments-lts.Need-returns (arguments_known t) (arguments_at t) arguments.Post
+arguments_returns_3 t c = record { meant = λ ρ es xs w n. none_first _ _ _ _ _ ρ es xs (no_more _ _ _ _ _ ρ es xs w (sym c.if-wanted.false ∙ n)) }
 
 arguments_word_requires : (t : ℕ) → arguments-lts.Need-word-requires (arguments_known t) (arguments_at t) arguments.Post
 arguments_word_requires t c κs =
@@ -109,11 +109,11 @@ arguments_expression_requires t c κs =
       omega arith,
       record {
         expression = record { valuation = _; expression = m.expression; term = m.term; has = m.first };
-        tag = sym c.before.word.ensures ∙ lit_pos c.before.word.result 4 f (lit< tt) c.if2.true;
+        tag = sym c.before.word.ensures ∙ lit_pos c.before.word.result 4 f (lit< tt) c.if-word-eq-CALL.true;
       },
     )
 
-arguments_returns : (t : ℕ) → arguments-lts.Need-returns (arguments_known t) (arguments_at t) arguments.Post
+arguments_returns : (t : ℕ) → arguments-lts.Need-returns-then-word-eq-CALL (arguments_known t) (arguments_at t) arguments.Post
 arguments_returns t c =
     record {
       meant = λ ρ es xs w n.
@@ -127,10 +127,10 @@ arguments_leaf_requires t c κs =
     record {
       config = _;
       expression = record { valuation = _; expression = m.expression; term = m.term; has = m.first };
-      tag = λ e. c.if2.false (ap (of_z w64) (c.before.word.ensures ∙ e));
+      tag = λ e. c.if-word-eq-CALL.false (ap (of_z w64) (c.before.word.ensures ∙ e));
     }
 
-arguments_returns_2 : (t : ℕ) → arguments-lts.Need-returns-2 (arguments_known t) (arguments_at t) arguments.Post
+arguments_returns_2 : (t : ℕ) → arguments-lts.Need-returns-then-wanted (arguments_known t) (arguments_at t) arguments.Post
 arguments_returns_2 t c =
     record {
       meant = λ ρ es xs w n.
@@ -143,19 +143,19 @@ abbrev C-start : ℕ → Type 0
 C-start t = expression-lts.Start (expression_known t) (expression_at_lem t) expression.Post
 
 abbrev C-read : ℕ → Type 0
-C-read t = expression-lts.After-word (expression_known t) (expression_at_lem t) expression.Post
+C-read t = expression-lts.After-word-code (expression_known t) (expression_at_lem t) expression.Post
 
 abbrev C-counted : ℕ → Type 0
-C-counted t = expression-lts.After-arity (expression_known t) (expression_at_lem t) expression.Post
+C-counted t = expression-lts.After-arity-count (expression_known t) (expression_at_lem t) expression.Post
 
 abbrev C-first : ℕ → Type 0
-C-first t = expression-lts.After-arguments (expression_known t) (expression_at_lem t) expression.Post
+C-first t = expression-lts.After-arguments-first (expression_known t) (expression_at_lem t) expression.Post
 
 abbrev C-second : ℕ → Type 0
-C-second t = expression-lts.After-arguments2 (expression_known t) (expression_at_lem t) expression.Post
+C-second t = expression-lts.After-arguments-second (expression_known t) (expression_at_lem t) expression.Post
 
 abbrev C-third : ℕ → Type 0
-C-third t = expression-lts.After-arguments3 (expression_known t) (expression_at_lem t) expression.Post
+C-third t = expression-lts.After-arguments-third (expression_known t) (expression_at_lem t) expression.Post
 
 -- an expression e at its place that has the value x, which is a call
 abbrev ValueAt : (t : ℕ) → C-start t → Valuation → Term → Term → Type 0
@@ -165,75 +165,75 @@ abbrev CallAt : (t : ℕ) → C-start t → Valuation → Term → Term → Type
 CallAt t s ρ e x = CallHere s.args.table.now s.args.configuration.now s.args.starts.now s.args.ends.now s.args.at ρ e x
 
 a_call_lem : (t : ℕ) (s : C-start t) (ρ : Valuation) (e x : Term) → ValueAt t s ρ e x → CallAt t s ρ e x
-a_call_lem t s ρ e x w = is_call _ _ _ _ _ ρ e x w s.pre.1.tag
+a_call_lem t s ρ e x w = is_call _ _ _ _ _ ρ e x w s.requires.1.tag
 
 abbrev expression_of : (t : ℕ) → C-start t → Term
-expression_of t s = s.pre.1.expression.expression
+expression_of t s = s.requires.1.expression.expression
 
-the_call : (t : ℕ) (s : C-start t) → CallAt t s s.pre.1.expression.valuation (expression_of t s) s.pre.1.expression.term
-the_call t s = a_call_lem t s _ _ _ s.pre.1.expression.has
+the_call : (t : ℕ) (s : C-start t) → CallAt t s s.requires.1.expression.valuation (expression_of t s) s.requires.1.expression.term
+the_call t s = a_call_lem t s _ _ _ s.requires.1.expression.has
 
 room : (t : ℕ) (s : C-start t) → s.args.at + 2 ≤ length s.args.table.now
-room t s = (head_words _ _ (expression_of t s).label (expression_of t s).children nil s.pre.1.expression.has.placed.stands).room
+room t s = (head_words _ _ (expression_of t s).label (expression_of t s).children nil s.requires.1.expression.has.placed.stands).room
 
-code_is : (t : ℕ) (c : C-read t) (n : ℕ) → n < length functions → get_or c.before.args.table.now (c.before.args.at + 1) (pos 0) ≡ pos n → nat_abs (to_z w64 (of_z w64 c.word.result)) ≡ n
-code_is t c n h d = abs_back c.word.result n (c.word.ensures ∙ d) (omega arith)
+code_is : (t : ℕ) (c : C-read t) (n : ℕ) → n < length functions → get_or c.before.args.table.now (c.before.args.at + 1) (pos 0) ≡ pos n → nat_abs (to_z w64 (of_z w64 c.word-code.result)) ≡ n
+code_is t c n h d = abs_back c.word-code.result n (c.word-code.ensures ∙ d) (omega arith)
 
-counted : (t : ℕ) (c : C-counted t) (ρ : Valuation) (e x : Term) (k : CallAt t c.before.before ρ e x) → term_count e.children ≡ c.arity.result
-counted t c ρ e x k = k.many ∙ (sym (arity_is k.code) ∙ sym (c.arity.ensures ∙ ap arity_of (code_is t c.before k.code k.small k.datum)))
+counted : (t : ℕ) (c : C-counted t) (ρ : Valuation) (e x : Term) (k : CallAt t c.before.before ρ e x) → term_count e.children ≡ c.arity-count.result
+counted t c ρ e x k = k.many ∙ (sym (arity_is k.code) ∙ sym (c.arity-count.ensures ∙ ap arity_of (code_is t c.before k.code k.small k.datum)))
 
 -- the arguments' values, whatever they are: the first, the second and the third
 module _ (t : ℕ) (ρ : Valuation) (e x : Term) where
-  first_is : (c : C-first t) (k : CallAt t c.before.before.before ρ e x) → FirstMeant c.before.before.before.args.table.now c.before.before.before.args.configuration.now c.before.before.before.args.starts.now c.before.before.before.args.ends.now (c.before.before.before.args.at + 2) e.children k.terms c.arguments.result
-  first_is c k = c.arguments.ensures.meant ρ e.children k.terms k.have (ap (ltb 0) (sym (counted t c.before ρ e x k)))
+  first_is : (c : C-first t) (k : CallAt t c.before.before.before ρ e x) → FirstMeant c.before.before.before.args.table.now c.before.before.before.args.configuration.now c.before.before.before.args.starts.now c.before.before.before.args.ends.now (c.before.before.before.args.at + 2) e.children k.terms c.arguments-first.result
+  first_is c k = c.arguments-first.ensures.meant ρ e.children k.terms k.have (ap (ltb 0) (sym (counted t c.before ρ e x k)))
 
-  behind_first : (c : C-first t) (k : CallAt t c.before.before.before ρ e x) → HaveValues c.before.before.before.args.table.now c.before.before.before.args.configuration.now c.before.before.before.args.starts.now c.before.before.before.args.ends.now c.arguments.result.next ρ (rest_of e.children) (rest_of k.terms)
-  behind_first c k = rest_behind _ _ _ _ _ ρ e.children k.terms k.have c.arguments.result (first_is c k)
+  behind_first : (c : C-first t) (k : CallAt t c.before.before.before ρ e x) → HaveValues c.before.before.before.args.table.now c.before.before.before.args.configuration.now c.before.before.before.args.starts.now c.before.before.before.args.ends.now c.arguments-first.result.next ρ (rest_of e.children) (rest_of k.terms)
+  behind_first c k = rest_behind _ _ _ _ _ ρ e.children k.terms k.have c.arguments-first.result (first_is c k)
 
-  second_wanted : (c : C-first t) (k : CallAt t c.before.before.before ρ e x) → ltb 1 c.before.arity.result ≡ ltb 0 (term_count (rest_of e.children))
+  second_wanted : (c : C-first t) (k : CallAt t c.before.before.before ρ e x) → ltb 1 c.before.arity-count.result ≡ ltb 0 (term_count (rest_of e.children))
   second_wanted c k = ap (ltb 1) (sym (counted t c.before ρ e x k)) ∙ one_fewer e.children 0
 
-  second_is : (c : C-second t) (k : CallAt t c.before.before.before.before ρ e x) → FirstMeant c.before.before.before.before.args.table.now c.before.before.before.before.args.configuration.now c.before.before.before.before.args.starts.now c.before.before.before.before.args.ends.now c.before.arguments.result.next (rest_of e.children) (rest_of k.terms) c.arguments2.result
-  second_is c k = c.arguments2.ensures.meant ρ (rest_of e.children) (rest_of k.terms) (behind_first c.before k) (second_wanted c.before k)
+  second_is : (c : C-second t) (k : CallAt t c.before.before.before.before ρ e x) → FirstMeant c.before.before.before.before.args.table.now c.before.before.before.before.args.configuration.now c.before.before.before.before.args.starts.now c.before.before.before.before.args.ends.now c.before.arguments-first.result.next (rest_of e.children) (rest_of k.terms) c.arguments-second.result
+  second_is c k = c.arguments-second.ensures.meant ρ (rest_of e.children) (rest_of k.terms) (behind_first c.before k) (second_wanted c.before k)
 
-  behind_second : (c : C-second t) (k : CallAt t c.before.before.before.before ρ e x) → HaveValues c.before.before.before.before.args.table.now c.before.before.before.before.args.configuration.now c.before.before.before.before.args.starts.now c.before.before.before.before.args.ends.now c.arguments2.result.next ρ (rest_of (rest_of e.children)) (rest_of (rest_of k.terms))
-  behind_second c k = rest_behind _ _ _ _ _ ρ (rest_of e.children) (rest_of k.terms) (behind_first c.before k) c.arguments2.result (second_is c k)
+  behind_second : (c : C-second t) (k : CallAt t c.before.before.before.before ρ e x) → HaveValues c.before.before.before.before.args.table.now c.before.before.before.before.args.configuration.now c.before.before.before.before.args.starts.now c.before.before.before.before.args.ends.now c.arguments-second.result.next ρ (rest_of (rest_of e.children)) (rest_of (rest_of k.terms))
+  behind_second c k = rest_behind _ _ _ _ _ ρ (rest_of e.children) (rest_of k.terms) (behind_first c.before k) c.arguments-second.result (second_is c k)
 
-  third_wanted : (c : C-second t) (k : CallAt t c.before.before.before.before ρ e x) → ltb 2 c.before.before.arity.result ≡ ltb 0 (term_count (rest_of (rest_of e.children)))
+  third_wanted : (c : C-second t) (k : CallAt t c.before.before.before.before ρ e x) → ltb 2 c.before.before.arity-count.result ≡ ltb 0 (term_count (rest_of (rest_of e.children)))
   third_wanted c k = ap (ltb 2) (sym (counted t c.before.before ρ e x k)) ∙ (one_fewer e.children 1 ∙ one_fewer (rest_of e.children) 0)
 
-  third_is : (c : C-third t) (k : CallAt t c.before.before.before.before.before ρ e x) → FirstMeant c.before.before.before.before.before.args.table.now c.before.before.before.before.before.args.configuration.now c.before.before.before.before.before.args.starts.now c.before.before.before.before.before.args.ends.now c.before.arguments2.result.next (rest_of (rest_of e.children)) (rest_of (rest_of k.terms)) c.arguments3.result
-  third_is c k = c.arguments3.ensures.meant ρ (rest_of (rest_of e.children)) (rest_of (rest_of k.terms)) (behind_second c.before k) (third_wanted c.before k)
+  third_is : (c : C-third t) (k : CallAt t c.before.before.before.before.before ρ e x) → FirstMeant c.before.before.before.before.before.args.table.now c.before.before.before.before.before.args.configuration.now c.before.before.before.before.before.args.starts.now c.before.before.before.before.before.args.ends.now c.before.arguments-second.result.next (rest_of (rest_of e.children)) (rest_of (rest_of k.terms)) c.arguments-third.result
+  third_is c k = c.arguments-third.ensures.meant ρ (rest_of (rest_of e.children)) (rest_of (rest_of k.terms)) (behind_second c.before k) (third_wanted c.before k)
 
 -- the words handed over are words
-fits_first : (t : ℕ) (c : expression-lts.After-root (expression_known t) (expression_at_lem t) expression.Post) → SFits w64 c.root.result.tag × SFits w64 c.root.result.datum
+fits_first : (t : ℕ) (c : expression-lts.After-root-a (expression_known t) (expression_at_lem t) expression.Post) → SFits w64 c.root-a.result.tag × SFits w64 c.root-a.result.datum
 fits_first t c = (search rules, search rules)
 
-fits_second : (t : ℕ) (c : expression-lts.After-root2 (expression_known t) (expression_at_lem t) expression.Post) → SFits w64 c.root2.result.tag × SFits w64 c.root2.result.datum
+fits_second : (t : ℕ) (c : expression-lts.After-root-b (expression_known t) (expression_at_lem t) expression.Post) → SFits w64 c.root-b.result.tag × SFits w64 c.root-b.result.datum
 fits_second t c = (search rules, search rules)
 
-fits_third : (t : ℕ) (c : expression-lts.After-root3 (expression_known t) (expression_at_lem t) expression.Post) → SFits w64 c.root3.result.tag × SFits w64 c.root3.result.datum
+fits_third : (t : ℕ) (c : expression-lts.After-root-c (expression_known t) (expression_at_lem t) expression.Post) → SFits w64 c.root-c.result.tag × SFits w64 c.root-c.result.datum
 fits_third t c = (search rules, search rules)
 
-expression_add_word : (t : ℕ) → expression-lts.Need-overflow-add-word (expression_known t) (expression_at_lem t) expression.Post
+expression_add_word : (t : ℕ) → expression-lts.Need-overflow_add-at (expression_known t) (expression_at_lem t) expression.Post
 expression_add_word t c = let h = room t c in omega arith
 
-expression_word_requires : (t : ℕ) → expression-lts.Need-word-requires (expression_known t) (expression_at_lem t) expression.Post
+expression_word_requires : (t : ℕ) → expression-lts.Need-word-code-requires (expression_known t) (expression_at_lem t) expression.Post
 expression_word_requires t c κs = let h = room t c in omega arith
 
-expression_cast_code : (t : ℕ) → expression-lts.Need-overflow-cast-code (expression_known t) (expression_at_lem t) expression.Post
+expression_cast_code : (t : ℕ) → expression-lts.Need-overflow_cast-code (expression_known t) (expression_at_lem t) expression.Post
 expression_cast_code t c =
     let v = the_call t c.before in
     let h = v.small in
-    cast_ok w64 c.word.result v.code (c.word.ensures ∙ v.datum) (omega arith) (record { fits = omega arith })
+    cast_ok w64 c.word-code.result v.code (c.word-code.ensures ∙ v.datum) (omega arith) (record { fits = omega arith })
 
-expression_arity_requires : (t : ℕ) → expression-lts.Need-arity-requires (expression_known t) (expression_at_lem t) expression.Post
+expression_arity_requires : (t : ℕ) → expression-lts.Need-arity-count-requires (expression_known t) (expression_at_lem t) expression.Post
 expression_arity_requires t c κs = let v = the_call t c.before in rw (code_is t c v.code v.small v.datum) v.small
 
-expression_add_arguments : (t : ℕ) → expression-lts.Need-overflow-add-arguments (expression_known t) (expression_at_lem t) expression.Post
+expression_add_arguments : (t : ℕ) → expression-lts.Need-overflow_add-at-2 (expression_known t) (expression_at_lem t) expression.Post
 expression_add_arguments t c = let h = room t c.before.before in omega arith
 
-expression_arguments_requires : (t : ℕ) → expression-lts.Need-arguments-requires (expression_known t) (expression_at_lem t) expression.Post
+expression_arguments_requires : (t : ℕ) → expression-lts.Need-arguments-first-requires (expression_known t) (expression_at_lem t) expression.Post
 expression_arguments_requires t c κs =
     let s = c.before.before in
     let h = room t s in
@@ -241,7 +241,7 @@ expression_arguments_requires t c κs =
     let k = the_call t s in
     (omega arith, record { valuation = _; expressions = (expression_of t s).children; terms = k.terms; have = k.have; some = ap (ltb 0) (sym (counted t c _ _ _ k)) })
 
-expression_arguments_requires_2 : (t : ℕ) → expression-lts.Need-arguments-requires-2 (expression_known t) (expression_at_lem t) expression.Post
+expression_arguments_requires_2 : (t : ℕ) → expression-lts.Need-arguments-second-requires (expression_known t) (expression_at_lem t) expression.Post
 expression_arguments_requires_2 t c κs =
     let s = c.before.before.before in
     let h = room t s in
@@ -250,7 +250,7 @@ expression_arguments_requires_2 t c κs =
     let n = (first_is t _ _ _ c k).next in
     (omega arith, record { valuation = _; expressions = _; terms = _; have = behind_first t _ _ _ c k; some = second_wanted t _ _ _ c k })
 
-expression_arguments_requires_3 : (t : ℕ) → expression-lts.Need-arguments-requires-3 (expression_known t) (expression_at_lem t) expression.Post
+expression_arguments_requires_3 : (t : ℕ) → expression-lts.Need-arguments-third-requires (expression_known t) (expression_at_lem t) expression.Post
 expression_arguments_requires_3 t c κs =
     let s = c.before.before.before.before in
     let h = room t s in
@@ -262,20 +262,20 @@ expression_arguments_requires_3 t c κs =
 
 -- a lookup, or another call
 abbrev C-lookup : ℕ → Type 0
-C-lookup t = expression-lts.Then1 (expression_known t) (expression_at_lem t) expression.Post
+C-lookup t = expression-lts.Then-code-eq-LOOKUP (expression_known t) (expression_at_lem t) expression.Post
 
 abbrev C-other : ℕ → Type 0
-C-other t = expression-lts.Else1 (expression_known t) (expression_at_lem t) expression.Post
+C-other t = expression-lts.Else-code-eq-LOOKUP (expression_known t) (expression_at_lem t) expression.Post
 
 module _ (t : ℕ) (ρ : Valuation) (e x : Term) where
   looks : (c : C-lookup t) (k : CallAt t c.before.before.before.before.before.before ρ e x) → k.code ≡ looking
-  looks c k = sym (code_is t c.before.before.before.before.before k.code k.small k.datum) ∙ c.if1.true
+  looks c k = sym (code_is t c.before.before.before.before.before k.code k.small k.datum) ∙ c.if-code-eq-LOOKUP.true
 
   no_lookup : (c : C-other t) (k : CallAt t c.before.before.before.before.before.before ρ e x) → k.code ≡ looking → ⊥
-  no_lookup c k q = c.if1.false (code_is t c.before.before.before.before.before k.code k.small k.datum ∙ q)
+  no_lookup c k q = c.if-code-eq-LOOKUP.false (code_is t c.before.before.before.before.before k.code k.small k.datum ∙ q)
 
   -- behind the call's last argument
-  ends : (c : C-third t) (k : CallAt t c.before.before.before.before.before ρ e x) → c.arguments3.result.next ≡ c.before.before.before.before.before.args.at + length (encode (single e))
+  ends : (c : C-third t) (k : CallAt t c.before.before.before.before.before ρ e x) → c.arguments-third.result.next ≡ c.before.before.before.before.before.args.at + length (encode (single e))
   ends c k =
       let n₁ = (first_is t ρ e x c.before.before k).next in
       let n₂ = (second_is t ρ e x c.before k).next in
@@ -292,7 +292,7 @@ expression_lookup_requires t c κs =
     let k = the_call t d.before.before.before.before.before in
     (record { term = _; is = (first_is t _ _ _ d.before.before k).is }, record { term = _; is = (second_is t _ _ _ d.before k).is })
 
-expression_returns : (t : ℕ) → expression-lts.Need-returns (expression_known t) (expression_at_lem t) expression.Post
+expression_returns : (t : ℕ) → expression-lts.Need-returns-then-code-eq-LOOKUP (expression_known t) (expression_at_lem t) expression.Post
 expression_returns t c =
     let d = c.before in
     let third = d.before in
@@ -301,22 +301,22 @@ expression_returns t c =
     lookup_meant _ _ _ _ _ ρ e x k (looks t ρ e x d k) _
     (c.lookup.ensures.is _ _ (first_is t ρ e x third.before.before k).is (second_is t ρ e x third.before k).is) c.lookup.ensures.place (ends t ρ e x third k)
 
-expression_root_requires : (t : ℕ) → expression-lts.Need-root-requires (expression_known t) (expression_at_lem t) expression.Post
+expression_root_requires : (t : ℕ) → expression-lts.Need-root-a-requires (expression_known t) (expression_at_lem t) expression.Post
 expression_root_requires t c κs =
     let d = c.before.before.before in
     record { term = _; is = (first_is t _ _ _ d (the_call t d.before.before.before)).is }
 
-expression_root_requires_2 : (t : ℕ) → expression-lts.Need-root-requires-2 (expression_known t) (expression_at_lem t) expression.Post
+expression_root_requires_2 : (t : ℕ) → expression-lts.Need-root-b-requires (expression_known t) (expression_at_lem t) expression.Post
 expression_root_requires_2 t c κs =
     let d = c.before.before.before in
     record { term = _; is = (second_is t _ _ _ d (the_call t d.before.before.before.before)).is }
 
-expression_root_requires_3 : (t : ℕ) → expression-lts.Need-root-requires-3 (expression_known t) (expression_at_lem t) expression.Post
+expression_root_requires_3 : (t : ℕ) → expression-lts.Need-root-c-requires (expression_known t) (expression_at_lem t) expression.Post
 expression_root_requires_3 t c κs =
     let d = c.before.before.before in
     record { term = _; is = (third_is t _ _ _ d (the_call t d.before.before.before.before.before)).is }
 
-expression_apply_requires : (t : ℕ) → expression-lts.Need-apply-requires (expression_known t) (expression_at_lem t) expression.Post
+expression_apply_requires : (t : ℕ) → expression-lts.Need-apply-r-requires (expression_known t) (expression_at_lem t) expression.Post
 expression_apply_requires t c κs =
     let d = c.before.before.before.before.before.before.before.before.before in
     let k = the_call t d.before.before.before.before.before.before in
@@ -325,7 +325,7 @@ expression_apply_requires t c κs =
 expression_given_requires : (t : ℕ) → expression-lts.Need-given-requires (expression_known t) (expression_at_lem t) expression.Post
 expression_given_requires t c κs = tt
 
-expression_returns_2 : (t : ℕ) → expression-lts.Need-returns-2 (expression_known t) (expression_at_lem t) expression.Post
+expression_returns_2 : (t : ℕ) → expression-lts.Need-returns (expression_known t) (expression_at_lem t) expression.Post
 expression_returns_2 t c =
     let done = c.before in
     let rooted = done.before.before.before.before.before.before.before in
@@ -339,16 +339,16 @@ expression_returns_2 t c =
     let fc = fits_third t rooted in
     evaluated _ _ _ _ _ _ λ ρ e x w.
     let k = a_call_lem t start ρ e x w in
-    let l₁ = label_is _ _ _ (rooted.before.before.root.ensures.is (first_term k.terms) (first_is t ρ e x first k).is) in
-    let l₂ = label_is _ _ _ (rooted.before.root2.ensures.is (first_term (rest_of k.terms)) (second_is t ρ e x second k).is) in
-    let l₃ = label_is _ _ _ (rooted.root3.ensures.is (first_term (rest_of (rest_of k.terms))) (third_is t ρ e x third k).is) in
+    let l₁ = label_is _ _ _ (rooted.before.before.root-a.ensures.is (first_term k.terms) (first_is t ρ e x first k).is) in
+    let l₂ = label_is _ _ _ (rooted.before.root-b.ensures.is (first_term (rest_of k.terms)) (second_is t ρ e x second k).is) in
+    let l₃ = label_is _ _ _ (rooted.root-c.ensures.is (first_term (rest_of (rest_of k.terms))) (third_is t ρ e x third k).is) in
     call_meant _ _ _ _ _ ρ e x k (no_lookup t ρ e x other k) _
-    (c.given.ensures ∙ ap (λ (r : Root). given (r)) (done.apply.ensures ∙ ap root_of
+    (c.given.ensures ∙ ap (λ (r : Root). given (r)) (done.apply-r.ensures ∙ ap root_of
     (rw (to_z-of_z fa.0, to_z-of_z fa.1, to_z-of_z fb.0, to_z-of_z fb.1, to_z-of_z fc.0, to_z-of_z fc.1, code_is t first.before.before k.code k.small k.datum) (roots_are k.terms _ _ _ l₁ l₂ l₃ k.code))))
     (ends t ρ e x third k)
 
-pub +arguments-expression-spec : {M : Type 1} → statement M
-+arguments-expression-spec = close μ-arguments μ-expression (λ t. arguments-lts.spec (arguments_known t)
+pub +arguments_expression_spec : {M : Type 1} → statement M
++arguments_expression_spec = close μ-arguments μ-expression (λ t. arguments-lts.spec (arguments_known t)
     (arguments_at t)
     arguments.Post
     (arguments_word_requires t)

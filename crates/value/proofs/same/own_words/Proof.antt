@@ -19,7 +19,7 @@ returns c =
     rw (c.in-Computed.is, to_z-of_z f, to_z-of_z g)
 
 returns-2 : tie.Need-returns-in_default
-returns-2 c = sym (own_none c.args.v c.in_default.keys2)
+returns-2 c = sym (own_none c.args.v c.in_default.in_default-own.keys2)
 
 pub own_words_spec : {M : Type 1} → statement M
 own_words_spec =

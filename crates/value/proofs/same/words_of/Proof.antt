@@ -16,7 +16,7 @@ unfolding value_words own_words
 returns c = c.requires.1 ∙ rw c.in-Computed.is
 
 returns-2 : tie.Need-returns-in_default
-returns-2 c = c.part.ensures ∙ part_is _ _ c.args.v c.in_default.keys2
+returns-2 c = c.part.ensures ∙ part_is _ _ c.args.v c.before.in_default.in_default-own.keys2
 
 pub words_of_spec : {M : Type 1} → statement M
 words_of_spec =

@@ -12,7 +12,7 @@ use Rattle.value.proofs.update.entry_words.Tie as tie
 
 -- the part has the value's words, two or more
 the_words : (c : tie.After-part-words) → c.part-words.result.now ≡ value_words c.args.table.now c.args.configuration.now c.args.v
-the_words c = c.part-words.ensures ∙ part_is _ _ c.args.v c.in_default.keys2
+the_words c = c.part-words.ensures ∙ part_is _ _ c.args.v c.before.in_default.in_default-own.keys2
 
 two : (c : tie.After-part-words) → 2 ≤ length c.part-words.result.now
 two c =

@@ -35,7 +35,7 @@ module _ (c : tie.After-struct_known-3-1) where
       let e = ap length c.entry_words-s.ensures in
       let f = s.requires.2.order in
       let g = s.requires.2.within in
-      let h : c.before.size.result ≡ size_of s.args.v = c.size-n.ensures in
+      let h : c.size-n.result ≡ size_of s.args.v = c.size-n.ensures in
       omega arith
 
 add-result : tie.Need-overflow_add-result
@@ -51,7 +51,7 @@ returns-2 : tie.Need-returns
 returns-2 c =
     let s = c.before.before.before.before.before.before in
     let a = kept_length (value_words s.args.table.now s.args.configuration.now s.args.d) s.args.p (value_words s.args.table.now s.args.configuration.now s.args.v) (not-false s.args.p.keeps c.if-not-p.false) s.requires.2 in
-    let b : c.before.size.result ≡ size_of s.args.v = c.size-n.ensures in
+    let b : c.size-n.result ≡ size_of s.args.v = c.size-n.ensures in
     let d = size_is s.args.table.now s.args.configuration.now s.args.v s.requires.1 in
     let e = ap length c.entry_words-s.ensures in
     omega arith

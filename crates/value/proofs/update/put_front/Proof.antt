@@ -36,9 +36,9 @@ returns c =
     let p = s.requires.0 in
     let q = s.requires.1 in
     let t : to_z w64 s.args.count ≡ pos s.args.count = to_z_pos w64 (omega arith) in
-    let x : PutContract s.args.out.now s.args.at (pos 5 ∷ pos s.args.count ∷ []) a.new.0 a.result = rw t at a.ensures in
-    let y : PutContract s.args.out.now s.args.at (pos 5 ∷ pos s.args.count ∷ s.args.words.now) b.new.0 b.result = put_then _ _ _ _ _ _ (pos 5 ∷ pos s.args.count ∷ []) s.args.words.now (omega arith) x b.ensures in
-    let z : PutContract b.new.0 b.result (pos 2 ∷ s.args.key ∷ []) d.new.0 d.result = rw (to_z-of_z s.ranges.key) at d.ensures in
+    let x : PutContract s.args.out.now s.args.at (pos 5 ∷ pos s.args.count ∷ []) a.new.out a.result = rw t at a.ensures in
+    let y : PutContract s.args.out.now s.args.at (pos 5 ∷ pos s.args.count ∷ s.args.words.now) b.new.out b.result = put_then _ _ _ _ _ _ (pos 5 ∷ pos s.args.count ∷ []) s.args.words.now (omega arith) x b.ensures in
+    let z : PutContract b.new.out b.result (pos 2 ∷ s.args.key ∷ []) d.new.out d.result = rw (to_z-of_z s.ranges.key) at d.ensures in
     put_then _ _ _ _ _ _ (pos 5 ∷ pos s.args.count ∷ s.args.words.now) (pos 2 ∷ s.args.key ∷ []) (omega arith) y z
 
 pub put_front_spec : {M : Type 1} → statement M
