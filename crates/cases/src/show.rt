@@ -2,23 +2,24 @@
 ghost use Rattle.std.specs.Prelude.{◌+◌, ◌<◌, ◌≤◌, length};
 
 use minuska::{Check, MatchAnswer, ReasonsAnswer, Refusal, ReplayAnswer, RunAnswer, StepAnswer};
+use std::io;
 use value::builtin::Root;
 
-pub fn text(s: &[u8]) {
-    io::write_all(1, s);
+pub fn text(rt: &impl Print, s: &[u8]) -> io::Result<()> {
+    rt.write_all(s)
 }
 
-pub fn number(n: usize) {
-    io::print_decimal(1, n as u64);
+pub fn number(rt: &impl Print, n: usize) -> io::Result<()> {
+    print!(rt; "{n}")
 }
 
 // A word, with its sign.
-pub fn whole(z: i64) {
+pub fn whole(rt: &impl Print, z: i64) -> io::Result<()> {
     if z < 0 {
-        text(b"-");
-        number(below_zero(z));
+        text(rt, b"-")?;
+        number(rt, below_zero(z))
     } else {
-        number(crate::build::number(z));
+        number(rt, crate::build::number(z))
     }
 }
 
@@ -32,125 +33,125 @@ fn below_zero(z: i64) -> usize {
     }
 }
 
-pub fn end() {
-    text(b"\n");
+pub fn end(rt: &impl Print) -> io::Result<()> {
+    text(rt, b"\n")
 }
 
-fn gap() {
-    text(b" ");
+fn gap(rt: &impl Print) -> io::Result<()> {
+    text(rt, b" ")
 }
 
-pub fn named(name: &[u8]) {
-    text(name);
-    text(b": ");
+pub fn named(rt: &impl Print, name: &[u8]) -> io::Result<()> {
+    text(rt, name)?;
+    text(rt, b": ")
 }
 
-fn refusal(r: Refusal) {
-    text(b"refused ");
-    io::print_decimal(1, minuska::number(r));
+fn refusal(rt: &impl Print, r: Refusal) -> io::Result<()> {
+    text(rt, b"refused ")?;
+    print!(rt; "{}", minuska::number(r))
 }
 
-fn check(c: Check) {
+fn check(rt: &impl Print, c: Check) -> io::Result<()> {
     match c {
-        Check::Good => text(b"good"),
-        Check::Refused(r) => refusal(r),
+        Check::Good => text(rt, b"good"),
+        Check::Refused(r) => refusal(rt, r),
     }
 }
 
 // A check of what has a name.
-pub fn checked(what: &[u8], name: &[u8], c: Check) {
+pub fn checked(rt: &impl Print, what: &[u8], name: &[u8], c: Check) -> io::Result<()> {
     if name.len() == 0 {
-        return;
+        return Ok(());
     }
-    text(what);
-    named(name);
-    check(c);
-    end();
+    text(rt, what)?;
+    named(rt, name)?;
+    check(rt, c)?;
+    end(rt)
 }
 
-pub fn matched(a: MatchAnswer) {
+pub fn matched(rt: &impl Print, a: MatchAnswer) -> io::Result<()> {
     match a {
-        MatchAnswer::Matches(k) => counted(b"matches ", k),
-        MatchAnswer::Differs(k) => counted(b"differs ", k),
-        MatchAnswer::Refused(r) => refusal(r),
+        MatchAnswer::Matches(k) => counted(rt, b"matches ", k),
+        MatchAnswer::Differs(k) => counted(rt, b"differs ", k),
+        MatchAnswer::Refused(r) => refusal(rt, r),
     }
 }
 
-pub fn listed(a: ReasonsAnswer) {
+pub fn listed(rt: &impl Print, a: ReasonsAnswer) -> io::Result<()> {
     match a {
-        ReasonsAnswer::Listed => text(b"listed"),
-        ReasonsAnswer::NotStuck(rule) => counted(b"not stuck ", rule),
-        ReasonsAnswer::Refused(r) => refusal(r),
+        ReasonsAnswer::Listed => text(rt, b"listed"),
+        ReasonsAnswer::NotStuck(rule) => counted(rt, b"not stuck ", rule),
+        ReasonsAnswer::Refused(r) => refusal(rt, r),
     }
 }
 
-fn numbers(rule: usize, action: u16, nodes: usize) {
-    number(rule);
-    gap();
-    number(action as usize);
-    gap();
-    number(nodes);
+fn numbers(rt: &impl Print, rule: usize, action: u16, nodes: usize) -> io::Result<()> {
+    number(rt, rule)?;
+    gap(rt)?;
+    number(rt, action as usize)?;
+    gap(rt)?;
+    number(rt, nodes)
 }
 
-pub fn stepped(a: StepAnswer) {
+pub fn stepped(rt: &impl Print, a: StepAnswer) -> io::Result<()> {
     match a {
         StepAnswer::Stepped {
             rule,
             action,
             nodes,
         } => {
-            text(b"stepped ");
-            numbers(rule, action, nodes);
+            text(rt, b"stepped ")?;
+            numbers(rt, rule, action, nodes)
         }
-        StepAnswer::Stuck => text(b"stuck"),
-        StepAnswer::Refused(r) => refusal(r),
+        StepAnswer::Stuck => text(rt, b"stuck"),
+        StepAnswer::Refused(r) => refusal(rt, r),
     }
 }
 
-pub fn ran(a: RunAnswer) {
+pub fn ran(rt: &impl Print, a: RunAnswer) -> io::Result<()> {
     match a {
-        RunAnswer::Stuck(k) => counted(b"stuck ", k),
-        RunAnswer::Spent(k) => counted(b"spent ", k),
-        RunAnswer::Over(k) => counted(b"over ", k),
-        RunAnswer::Refused(r) => refusal(r),
+        RunAnswer::Stuck(k) => counted(rt, b"stuck ", k),
+        RunAnswer::Spent(k) => counted(rt, b"spent ", k),
+        RunAnswer::Over(k) => counted(rt, b"over ", k),
+        RunAnswer::Refused(r) => refusal(rt, r),
     }
 }
 
-fn counted(name: &[u8], k: usize) {
-    text(name);
-    number(k);
+fn counted(rt: &impl Print, name: &[u8], k: usize) -> io::Result<()> {
+    text(rt, name)?;
+    number(rt, k)
 }
 
-pub fn replayed(a: ReplayAnswer) {
+pub fn replayed(rt: &impl Print, a: ReplayAnswer) -> io::Result<()> {
     match a {
-        ReplayAnswer::Reproduced => text(b"reproduced"),
-        ReplayAnswer::NotReproduced => text(b"not reproduced"),
-        ReplayAnswer::Refused(r) => refusal(r),
+        ReplayAnswer::Reproduced => text(rt, b"reproduced"),
+        ReplayAnswer::NotReproduced => text(rt, b"not reproduced"),
+        ReplayAnswer::Refused(r) => refusal(rt, r),
     }
 }
 
-fn truth(x: bool) {
+fn truth(rt: &impl Print, x: bool) -> io::Result<()> {
     if x {
-        return text(b"true");
+        return text(rt, b"true");
     }
-    text(b"false");
+    text(rt, b"false")
 }
 
 // A function's value: error, a truth value, a whole number or the empty dictionary.
-pub fn value(r: Root) {
+pub fn value(rt: &impl Print, r: Root) -> io::Result<()> {
     let tag = r.tag;
     let datum = r.datum;
     match tag {
-        0 => text(b"error"),
-        1 => truth(datum == 1),
-        2 => whole(datum),
-        _ => text(b"empty dictionary"),
+        0 => text(rt, b"error"),
+        1 => truth(rt, datum == 1),
+        2 => whole(rt, datum),
+        _ => text(rt, b"empty dictionary"),
     }
 }
 
 // A function whose value the nodes of its arguments do not give.
-pub fn of_whole_terms() {
-    text(b"not of single nodes");
+pub fn of_whole_terms(rt: &impl Print) -> io::Result<()> {
+    text(rt, b"not of single nodes")
 }
 
 // How many words from a place on are equal.
@@ -170,50 +171,52 @@ fn stretch(words: &[i64], at: usize) -> usize
 }
 
 // A group of equal words.
-fn group(v: i64, n: usize) {
-    gap();
-    whole(v);
+fn group(rt: &impl Print, v: i64, n: usize) -> io::Result<()> {
+    gap(rt)?;
+    whole(rt, v)?;
     if n == 2 {
-        gap();
-        whole(v);
+        gap(rt)?;
+        whole(rt, v)?;
     }
     if 2 < n {
-        text(b"x");
-        number(n);
+        text(rt, b"x")?;
+        number(rt, n)?;
     }
+    Ok(())
 }
 
 // A slice, whole.
-fn slice(name: &[u8], words: &[i64]) {
-    text(name);
+fn slice(rt: &impl Print, name: &[u8], words: &[i64]) -> io::Result<()> {
+    text(rt, name)?;
     let mut i = 0;
     while i < words.len() {
         let n = stretch(words, i);
-        group(term::word(words, i), n);
+        group(rt, term::word(words, i), n)?;
         i += n;
     }
+    Ok(())
 }
 
-pub fn list(words: &[i64]) {
-    slice(b"; list", words);
+pub fn list(rt: &impl Print, words: &[i64]) -> io::Result<()> {
+    slice(rt, b"; list", words)
 }
 
-pub fn out(words: &[i64]) {
-    slice(b"; out", words);
+pub fn out(rt: &impl Print, words: &[i64]) -> io::Result<()> {
+    slice(rt, b"; out", words)
 }
 
-pub fn spare(words: &[i64]) {
-    slice(b"; spare", words);
+pub fn spare(rt: &impl Print, words: &[i64]) -> io::Result<()> {
+    slice(rt, b"; spare", words)
 }
 
-pub fn work(words: &[i64]) {
-    slice(b"; work", words);
+pub fn work(rt: &impl Print, words: &[i64]) -> io::Result<()> {
+    slice(rt, b"; work", words)
 }
 
 // A part's length, and its first words.
-pub fn part(length: usize, first: &[i64]) {
-    counted(b"words ", length);
-    slice(b";", first);
+pub fn part(rt: &impl Print, length: usize, first: &[i64]) -> io::Result<()> {
+    counted(rt, b"words ", length)?;
+    slice(rt, b";", first)
 }
 
 fn wide(x: u16) -> i64 {
@@ -238,8 +241,8 @@ fn widen(from: &[u16], to: &mut [i64]) -> usize {
 }
 
 // Choices, whole; none here are more than 4,200.
-pub fn choices(numbers: &[u16]) {
+pub fn choices(rt: &impl Print, numbers: &[u16]) -> io::Result<()> {
     let mut room = [0i64; 4200];
     let n = widen(numbers, &mut room);
-    slice(b"; picks", crate::build::front(&room, n));
+    slice(rt, b"; picks", crate::build::front(&room, n))
 }

@@ -19,7 +19,7 @@ pub fn from(text: &[u8], at: usize) -> &[u8] {
 
 // The place of a byte, or the end.
 pub fn find(text: &[u8], byte: u8) -> usize {
-    bytes::scan::find(text, 0, text.len(), byte)
+    text.iter().position(|b| *b == byte).unwrap_or(text.len())
 }
 
 // The first byte; an empty line counts as a comment.

@@ -1,5 +1,5 @@
 -- What the program reads (document 01, "The replay desk"): four lines, each ended by LF.
-use Rattle.std.specs.Prelude.{◌≡◌, Bool, List, [], ◌∷◌, ◌++◌, map, ℕ, ◌^◌, ◌≤◌, ℤ, pos, negsuc, T, ltb, length}
+use Rattle.std.specs.Prelude.{◌≡◌, Bool, List, [], ◌∷◌, ◌++◌, map, ℕ, ◌≤◌, ℤ, T, length}
 use Rattle.minuska.specs.Basics.{every}
 use Rattle.decimal.specs.Decimal.{ascii, decimal, whole_text}
 use Rattle.decimal.specs.Line.{parted, is_word, is_action, is_limit}

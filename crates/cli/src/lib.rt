@@ -1,5 +1,6 @@
 // The command line program's work: the bytes of an input to the bytes of its answer.
 #![tactic(auto)]
+
 ghost use Rattle.std.specs.Prelude.{◌≤◌, length};
 ghost use Rattle.minuska.specs.Computed.Outcome.{replay_outcome};
 ghost use Rattle.cli.specs.Output.{answered, answer_text};

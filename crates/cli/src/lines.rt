@@ -28,6 +28,7 @@ fn line_end(input: &[u8], from: usize) -> usize
 }
 
 // The place behind a line; 0 where the line has no LF or is too long.
+#[tactic(auto, using(crate::proofs::LinesTurn::line_from, crate::proofs::LinesTurn::next_none, crate::proofs::LinesTurn::next_long, crate::proofs::LinesTurn::next_line_lem))]
 fn next_line(input: &[u8], from: usize) -> usize
     ensures { result ≡ next_line input.now from }
 {

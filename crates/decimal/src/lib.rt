@@ -1,5 +1,6 @@
 // Numbers as text, read and put: one number, the number reader, a line of numbers.
 #![tactic(auto)]
+
 pub mod line;
 pub mod number;
 pub mod print;

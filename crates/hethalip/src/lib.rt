@@ -1,5 +1,6 @@
 // The C interface: each routine under a fixed name, its answer packed into one number.
 #![tactic(auto)]
+
 mod pack;
 
 ghost use Rattle.minuska.specs.Contract.{CheckTableContract, CheckConfigurationContract, MatchRuleContract, ReasonsContract, StepContract, StepByRuleContract, RunContract, ReplayContract};

@@ -1,6 +1,7 @@
 // What a search over frames remembers, in the frames' own words: the configuration that a frame was left with, and more in its free words. What a remembered
 // configuration is good for is the search's matter; here it is words that stood in the frame once.
 #![tactic(auto)]
+
 mod entries;
 pub mod frame;
 

@@ -1,5 +1,6 @@
 // The replay: is there a path of rule steps, none above the limit, that yields a log of actions? It relies on the step's stated answer alone.
 #![tactic(auto)]
+
 mod ending;
 mod search;
 

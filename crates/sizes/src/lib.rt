@@ -1,5 +1,6 @@
 // Refusals 3, 4 and 5 (document 01, "Turned back"), once for every routine that has a limit.
 #![tactic(auto)]
+
 ghost use Rattle.std.specs.Prelude.{◌≡◌, ◌+◌, ◌*◌, ◌<◌, ltb};
 ghost use Rattle.sizes.specs.Sizes.{limit_outside, size_check};
 

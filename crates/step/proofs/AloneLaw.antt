@@ -1,5 +1,5 @@
 -- A rule alone: its verdict, from the number that `apply_coded` leaves.
-use mathlib.Core.Path.{◌≡◌, refl}
+use mathlib.Core.Path.{◌≡◌, refl, ◌∙◌, ap, subst⁻¹}
 use mathlib.Core.Option.{Option, none, some}
 use mathlib.Core.List.{List}
 use Prim.Native.Nat.{ℕ}
@@ -14,14 +14,15 @@ use Rattle.minuska.proofs.Good.{good}
 use Rattle.minuska.proofs.StepLaw.{rule_okay}
 use Rattle.minuska.proofs.ObstacleLaw.{place_below, number_below_lem}
 use Rattle.step.specs.declared.rule.Verdict.{Verdict}
-use Rattle.step.specs.Apply.{Candidate, verdict_of}
+use Rattle.step.specs.Apply.{Candidate, verdict_of, missed}
 use Rattle.step.specs.Verdict.{verdict_for, VerdictIs, VerdictInRange, DecodedIs}
-use Rattle.step.specs.Among.{CodedAmongIs}
+use Rattle.step.specs.Among.{AmongIs, CodedAmongIs}
+use Rattle.step.proofs.VerdictLaw.{verdict_is}
 
 module _ (ws cs : List ℤ) (n : ℕ) where
   -- a verdict of an accepted table's rule is in range
   pub verdict_range : (rule : Rule) (g : Term) → Candidate ws cs n rule g → VerdictInRange (verdict_of rule g)
-  verdict_range rule g c = go (reason rule g) refl
+  verdict_range rule g c = subst⁻¹ VerdictInRange (verdict_is rule g) (go (reason rule g) refl)
     where
       go : (o : Option Reason) → reason rule g ≡ o → VerdictInRange (verdict_for o)
       go none e = tt
@@ -38,3 +39,12 @@ module _ (ws cs : List ℤ) (n : ℕ) where
 
   pub verdict_by_lem : (out out' : List ℤ) (number : ℕ) (r : StepAnswer) (v : Verdict) → CodedAmongIs ws cs n 0 0 out out' 0 number r → DecodedIs number v → VerdictIs ws cs n v
   verdict_by_lem out out' number r v k d = record { is = λ rule g c. d.is (verdict_of rule g) (verdict_range rule g c) (k.alone refl refl rule g c) }
+
+  -- of rules tried one after the other: what `apply_among` says, from the number that the first leaves if it is alone
+  pub among_by : (from to : ℕ) (out out' : List ℤ) (number misfit misfit' : ℕ) (r : StepAnswer) (v : Verdict) → CodedAmongIs ws cs n from to out out' 0 number r → DecodedIs number v → misfit' ≡ missed v → AmongIs ws cs n from to out out' misfit misfit' r
+  among_by from to out out' number misfit misfit' r v k d e =
+      record {
+        answer = k.answer;
+        leaves = k.leaves;
+        alone = λ p z rule g c. e ∙ ap missed (d.is (verdict_of rule g) (verdict_range rule g c) (k.alone p refl rule g c));
+      }

@@ -35,7 +35,7 @@ use Rattle.step.specs.declared.rule.Verdict.{Verdict}
 use Rattle.step.specs.declared.rule.Verdict.TheVariants.{Applies}
 use Rattle.step.specs.Apply.{Candidate, Matched, SomeMatched, verdict_of, JudgeIs, Instantiated}
 use Rattle.step.specs.Verdict.{VerdictIs, code}
-use Rattle.step.specs.Among.{positions, KeyFor, CodedAmongIs}
+use Rattle.step.specs.Among.{positions, KeyFor, AmongIs, CodedAmongIs}
 use Rattle.step.proofs.ApplyLaw.{outcome_by, instantiated_answer, instantiated_out_lem, unmatched, verdict_applies, past_successor}
 
 -- ---- the order from a position on
@@ -202,8 +202,8 @@ module _ (ws cs : List ℤ) (first from to : ℕ) where
 
 -- ---- the step by one rule: that rule alone
 module _ (ws cs : List ℤ) (index : List ℕ) (out : List ℤ) (x : Indexed ws index) (y : Accepted cs) where
-  pub by_that_rule : (n : ℕ) (out' : List ℤ) (verdict verdict' : ℕ) (r : StepAnswer) → CodedAmongIs ws cs n 0 0 out out' verdict verdict' r → StepByRuleContract ws cs n out out' r
-  by_that_rule n out' verdict verdict' r k =
+  pub by_that_rule : (n : ℕ) (out' : List ℤ) (misfit misfit' : ℕ) (r : StepAnswer) → AmongIs ws cs n 0 0 out out' misfit misfit' r → StepByRuleContract ws cs n out out' r
+  by_that_rule n out' misfit misfit' r k =
       let t = x.table in
       let g = y.term in
       let o : rule_outcome ws cs n (length out) ≡ gives (answered t (out_limit (length out)) (first_of t (n ∷ positions 0 0 t) g)) =
@@ -255,8 +255,8 @@ module _ (ws cs : List ℤ) (index : List ℕ) (out : List ℤ) (x : Indexed ws 
           outcome_first root first key s ∙ ap (λ (l : List ℕ). gives (answered t (out_limit (length out)) (first_of t l y.term))) (positions_none t first count past) in
           step_contract ws cs out out S.Stuck (ap step_answer (sym o)) (ap (λ (z : Outcome StepResult). step_out z out) (sym o))
 
-      pub the_earliest : (n : ℕ) (out' : List ℤ) (verdict verdict' : ℕ) (r : StepAnswer) → first < count → OrderedIs ws first n → CodedAmongIs ws cs n (first + 1) count out out' verdict verdict' r → StepContract ws cs out out' r
-      the_earliest n out' verdict verdict' r below o k =
+      pub the_earliest : (n : ℕ) (out' : List ℤ) (misfit misfit' : ℕ) (r : StepAnswer) → first < count → OrderedIs ws first n → AmongIs ws cs n (first + 1) count out out' misfit misfit' r → StepContract ws cs out out' r
+      the_earliest n out' misfit misfit' r below o k =
           let t = x.table in
           let g = y.term in
           let w : step_outcome ws cs (length out) ≡ gives (answered t (out_limit (length out)) (first_of t (n ∷ positions (first + 1) count t) g)) =

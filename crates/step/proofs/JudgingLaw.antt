@@ -17,7 +17,6 @@ use Rattle.minuska.specs.Term.{Term}
 use Rattle.minuska.specs.Rule.{Rule, Table, IsTable, IsConfiguration}
 use Rattle.minuska.specs.Computed.Compare.{Comparison}
 use Rattle.minuska.specs.Computed.Step.{or_next, first_of, order, earliest}
-use Rattle.minuska.specs.Computed.Reasons.{reason_by}
 use Rattle.minuska.specs.Bridge.Place.{Names, RuleCountIs, OrderedIs, Positions, RootKeyIs, SeekIs}
 use Rattle.minuska.proofs.OrderLaw.{named_below, order_complete}
 use Rattle.minuska.proofs.Bridge.PositionLaw.{few_rules, order_length}
@@ -25,8 +24,8 @@ use Rattle.minuska.proofs.Bridge.RootLaw.{root_apart}
 use Rattle.step.specs.declared.reason.Earliest.TheVariants as E
 use Rattle.step.specs.declared.rule.Verdict.{Verdict}
 use Rattle.step.specs.declared.rule.Verdict.TheVariants.{Applies}
-use Rattle.step.specs.Apply.{Candidate, verdict_of}
-use Rattle.step.specs.Verdict.{verdict_for, VerdictIs, code}
+use Rattle.step.specs.Apply.{Candidate, verdict_by, verdict_of}
+use Rattle.step.specs.Verdict.{VerdictIs, code}
 use Rattle.step.specs.Among.{positions}
 use Rattle.step.specs.Reasons.{found_as, Fresh, JudgeAllIs}
 use Rattle.step.proofs.AmongLaw.{positions_none, positions_next, positions_all, verdict_some, verdict_none, sought}
@@ -60,7 +59,7 @@ module _ (ws cs : List ℤ) (count : ℕ) (b : Positions ws count) where
   module _ (i : ℕ) (verdicts : List ℕ) (k : Judging ws cs count i verdicts) (root r : ℕ) (key : RootKeyIs cs root) (s : SeekIs ws root i count r) where
     passed_one : (t : Table) (g : Term) (j n : ℕ) (rule : Rule) → IsTable ws t → IsConfiguration cs g → i ≤ j → j < r → get_elem? (order t) j ≡ some n → get_elem? t n ≡ some rule → 1 ≡ code (verdict_of rule g)
     passed_one t g j n rule p q low below o e =
-        sym (ap (λ (c : Comparison). code (verdict_for (reason_by rule.conditions c))) (root_apart rule.left g (s.passed.differ t rule g j n p (key.is g q) low below o e)))
+        sym (ap (λ (c : Comparison). code (verdict_by rule.conditions c)) (root_apart rule.left g (s.passed.differ t rule g j n p (key.is g q) low below o e)))
 
     pub judging_past : Judging ws cs count r verdicts
     judging_past =

@@ -6,10 +6,9 @@ use Prim.Native.Nat.{ℕ, ◌+◌, ◌*◌, ◌≤◌}
 use native.Mathlib.Omega.{arith}
 use lib.IntN.{ℤ}
 use lib.ListN.{length, get_elem?}
-use Rattle.minuska.specs.Term.{Term, single, node_count}
-use Rattle.minuska.specs.Word.{encode}
+use Rattle.minuska.specs.Term.{Term, node_count}
 use Rattle.minuska.specs.Satisfaction.{SideCondition}
-use Rattle.minuska.specs.Rule.{Rule, Table, IsTable, IsConfiguration}
+use Rattle.minuska.specs.Rule.{Rule}
 use Rattle.minuska.specs.Answer.{Outcome, gives, MatchResult, matched, misfit}
 use Rattle.minuska.specs.Slice.{match_answer}
 use Rattle.minuska.specs.declared.StepAnswer.{StepAnswer}

@@ -10,6 +10,7 @@ pub mod RuleLaw
 pub mod ApplyLaw
 pub mod WaysLaw
 pub mod AmongLaw
+pub mod VerdictLaw
 pub mod AloneLaw
 pub mod JudgingLaw
 pub mod PuttingLaw

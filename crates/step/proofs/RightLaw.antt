@@ -11,7 +11,7 @@ use lib.ListN.{length, take, drop, get_or, length-append}
 use lib.Signed.{non_neg}
 use borrow.Author.Tests.{ne_eqb}
 use Rattle.minuska.specs.Basics.{◌>>=◌}
-use Rattle.minuska.specs.Term.{Label, whole, variable, call, Forest, nil, node, Term, single, leaf, term_count, Role, a_variable, role, is_ground}
+use Rattle.minuska.specs.Term.{Label, whole, Forest, nil, node, Term, single, leaf, term_count, Role, a_variable, role, is_ground}
 use Rattle.minuska.specs.Word.{variables, ok_head, ok, tag_word, datum_word, encode}
 use Rattle.minuska.specs.Function.{in_word, share_range, out_of_range, interpret}
 use Rattle.minuska.specs.Satisfaction.{Valuation}

@@ -1,8 +1,8 @@
 -- How many words a right has at most under a match, by its sizes: two for each node that is its own; for each term that is a part of the configuration or of a literal of
 -- the right, as many as either has at most.
 use mathlib.Core.Path.{◌≡◌, refl, sym, ◌∙◌, ap, subst}
-use mathlib.Core.Bool.{Bool, true, false, cond, ◌&&◌}
-use mathlib.Core.Option.{Option, none, some, some-injective, none-ne-some}
+use mathlib.Core.Bool.{Bool, true, false, cond}
+use mathlib.Core.Option.{some, some-injective, none-ne-some}
 use mathlib.Core.List.{List, [], ◌∷◌}
 use Prim.Native.Nat.{ℕ, zero, suc, ◌+◌, ◌*◌, ◌≤◌}
 use native.Mathlib.Nat.{add-mul}

@@ -33,6 +33,7 @@ use Rattle.step.specs.declared.reason.Earliest.TheVariants as E
 use Rattle.step.specs.Apply.{Candidate, verdict_of}
 use Rattle.step.specs.Verdict.{verdict_for, code, VerdictInRange}
 use Rattle.step.specs.Reasons.{found_as, Fresh, JudgeAllIs, SomeCoded, PutAllIs}
+use Rattle.step.proofs.VerdictLaw.{verdict_is}
 use Rattle.step.proofs.AloneLaw.{verdict_range}
 
 -- a list of ones
@@ -101,7 +102,7 @@ module _ (ws cs : List ℤ) (index : List ℕ) (list : List ℤ) (x : Indexed ws
             at : (n : ℕ) (o : Reason) → get_elem? (reasons_of t g) n ≡ some o → (rule : Rule) × (get_elem? t n ≡ some rule) → (get_or verdicts n 0 ≡ code (verdict_for (some o))) × VerdictInRange (verdict_for (some o))
             at n o q (rule, p) =
                 let k : Candidate ws cs n rule g = record { table = t; is = x.is; numbered = p; configuration = y.is } in
-                let d : verdict_of rule g ≡ verdict_for (some o) = ap verdict_for (sym (reasons_at g t all n rule p) ∙ q) in
+                let d : verdict_of rule g ≡ verdict_for (some o) = verdict_is rule g ∙ ap verdict_for (sym (reasons_at g t all n rule p) ∙ q) in
                 (j.leaves e n rule g k ∙ ap code d, subst VerdictInRange d (verdict_range ws cs n rule g k))
 
         pub all_listed : (list' : List ℤ) → PutAllIs verdicts count list list' → ReasonsContract ws cs list list' Q.Listed

@@ -1,19 +1,17 @@
 -- An update in a right: three expressions behind its own two words, and the words of its value.
 use mathlib.Core.Path.{◌≡◌, refl, sym, ◌∙◌, ap, subst, subst⁻¹, subst₂}
-use mathlib.Core.Bool.{true, false}
 use mathlib.Core.List.{List, [], ◌∷◌, ◌++◌}
 use Prim.Native.Nat.{ℕ, suc, ◌+◌, ◌≤◌, ◌<◌}
 use native.Mathlib.Omega.{arith}
 use lib.Dec.{T, ltb}
 use lib.IntN.{ℤ, pos, nat_abs}
 use lib.ListN.{length, length-append}
-use Rattle.minuska.specs.Term.{Label, Forest, nil, node, Term, cons, single, term_count, Role, role}
+use Rattle.minuska.specs.Term.{Label, Forest, nil, node, Term, cons, single, term_count, Role}
 use Rattle.minuska.specs.Word.{tag_word, datum_word, encode}
 use Rattle.minuska.specs.Function.{function_at, interpret}
 use Rattle.minuska.specs.Satisfaction.{Valuation}
 use Rattle.minuska.specs.Rule.{updating, expression_at, is_expression, is_expression_term}
 use Rattle.minuska.specs.Computed.Read.{call_tag}
-use Rattle.minuska.specs.Bridge.Place.{Stands}
 use Rattle.minuska.proofs.NodeLaw.{call_tag_lem}
 use Rattle.minuska.proofs.WordLaw.{okay}
 use Rattle.minuska.proofs.Bridge.ItemLaw.{call_item}

@@ -21,7 +21,6 @@ use Rattle.minuska.specs.Computed.Step.{successor}
 use Rattle.minuska.specs.Bridge.Place.{Names, Accepted, Binds, ActionIs}
 use Rattle.minuska.proofs.Bridge.AcceptedLaw.{term_length}
 use Rattle.step.specs.declared.conditions.HowFar.{HowFar}
-use Rattle.step.specs.declared.conditions.HowFar.TheVariants.{All, Until}
 use Rattle.step.specs.declared.matching.Compared.{Compared}
 use Rattle.step.specs.declared.matching.Compared.TheVariants as C
 use Rattle.step.specs.declared.rule.Verdict.{Verdict}

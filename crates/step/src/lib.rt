@@ -1,5 +1,6 @@
 // One rule's left against a configuration; why no rule applies; one step: by a given rule, and by the earliest that applies.
 #![tactic(auto)]
+
 mod conditions;
 mod matching;
 mod reason;

@@ -1,5 +1,6 @@
 // Words of a slice: numbers kept in them, copies, zeros, comparisons. A loop over words that more than one crate needs stands here, once.
 #![tactic(auto)]
+
 ghost use Rattle.std.specs.Prelude.{◌≡◌, ◌+◌, ◌^◌, ◌≤◌, ◌<◌, pos, length, get_or, take, drop, set, replicate};
 ghost use Rattle.std.proofs.Math.Seq.{paste};
 ghost use Rattle.minuska.specs.Bridge.Place.{Decides};

@@ -15,13 +15,11 @@ same_length c = search rules
 
 returns : tie.Need-returns
 returns c =
-    let k = c.before.before.before.before in
-    let s = k.before.before in
-    let a = s.args in
-    let e = k.keep.ensures in
+    let a = c.args in
+    let e = c.keep.ensures in
     rw c.enter.ensures (
-      kept_enters a.room a.work.now a.at a.configuration.now k.keep.new.work s.requires.0 s.requires.1 e,
-      kept_keeps a.room a.work.now a.at a.configuration.now k.keep.new.work s.requires.0 s.requires.1 e,
+      kept_enters a.room a.work.now a.at a.configuration.now c.keep.new.work c.requires.0 c.requires.1 e,
+      kept_keeps a.room a.work.now a.at a.configuration.now c.keep.new.work c.requires.0 c.requires.1 e,
     )
 
 pub enter_spec : {M : Type 1} → statement M

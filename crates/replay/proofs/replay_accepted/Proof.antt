@@ -1,5 +1,5 @@
 -- `replay_accepted` meets its contract: it says and leaves what minuska's replay says.
-use mathlib.Core.Path.{◌≡◌, sym, ap, ◌∙◌}
+use mathlib.Core.Path.{sym, ap, ◌∙◌}
 use Prim.Native.Nat.{ℕ, ◌+◌, ◌≤◌, ◌<◌}
 use native.Mathlib.Omega.{arith}
 use lib.ListN.{length}
@@ -67,10 +67,9 @@ up c = c.set_up.ensures
 find-requires : tie.Need-find-found-requires
 find-requires c κs =
     let u = c.before.before.before in
-    let e = u.before.before.before in
-    let s = e.before in
-    let a = s.args in
-    let p = s.requires in (
+    let e = u.before.before in
+    let a = c.args in
+    let p = c.requires in (
       opened_room a.table.now a.index.now a.rules a.room a.configuration.now a.log.now a.out.now a.work.now p.0 p.1.0.0 (some e) p.1.1 _ (up u),
       (
         some e,
@@ -85,10 +84,9 @@ conclude-requires : tie.Need-conclude-requires
 conclude-requires c κs =
     let h = c.before.before.before.before.before in
     let u = h.before.before.before.before in
-    let e = u.before.before.before in
-    let s = e.before in
-    let a = s.args in
-    let p = s.requires in
+    let e = u.before.before in
+    let a = c.args in
+    let p = c.requires in
     let r = end_room a.table.now a.index.now a.rules a.room a.configuration.now a.log.now a.out.now a.work.now p.0 p.1.0.0 (some e) p.1.1 _ (up u) h.find-found.result _ _ h.find-found.ensures in
     (p.0.indexed, ((r.0, r.1, p.0.narrow, p.1.0.1), end_within a.table.now a.index.now a.rules a.room a.configuration.now a.log.now a.out.now a.work.now p.0 p.1.0.0 (some e) p.1.1 _ (up u) h.find-found.result _ _ h.find-found.ensures))
 
@@ -106,10 +104,9 @@ returns-2 c =
     let k = c.before.before.before.before in
     let h = k.before.before.before.before.before.before in
     let u = h.before.before.before.before in
-    let e = u.before.before.before in
-    let s = e.before in
-    let a = s.args in
-    let p = s.requires in
+    let e = u.before.before in
+    let a = c.args in
+    let p = c.requires in
     answered a.table.now a.index.now a.rules a.room a.configuration.now a.log.now a.out.now a.work.now p.0 p.1.0.0 (some e) p.1.1 _ (up u) h.find-found.result _ _ h.find-found.ensures a.choices.now _ _ _ _ k.conclude.ensures
 
 pub replay_accepted_spec : {M : Type 1} → statement M

@@ -35,7 +35,7 @@ returns c =
     let e : c.copy.new.to ≡ paste a.work.now (base a.room a.actions) kept a.room =
     c.copy.ensures ∙ ap (paste a.work.now a.last kept) (length-take-le a.room a.out.now s.requires.2)
     ∙ ap (λ (at : ℕ). paste a.work.now at kept a.room) s.requires.1 in
-    record { cleared = f.new.0; forgets = subst (λ (w : List ℤ). Forgets a.room a.actions w f.new.0) e f.ensures; is = c.enter.ensures }
+    record { cleared = f.new.work; forgets = subst (λ (w : List ℤ). Forgets a.room a.actions w f.new.work) e f.ensures; is = c.enter.ensures }
 
 pub set_up_spec : {M : Type 1} → statement M
 set_up_spec =

@@ -54,7 +54,7 @@ module _ (c : tie.Then-applies invariant-loop decreases-loop) where
   matched =
       let b = c.before in
       let s = start b in
-      judged_matched (ws b) (cs b) (turn b).loop-found.rule (turn b).loop-found.invariant.1 (starts b) (ends b) b.judge-found.result (judged b) (b.applies.ensures.yes c.if-applies.true) s.pre.0.0 s.pre.0.1
+      judged_matched (ws b) (cs b) (turn b).loop-found.rule (turn b).loop-found.invariant.1 (starts b) (ends b) b.judge-found.result (judged b) (b.applies.ensures.yes c.if-applies.true) s.requires.0.0 s.requires.0.1
 
 -- it does not, and the next is sought
 module _ (k : tie.After-seek-i invariant-loop decreases-loop) where
@@ -63,7 +63,7 @@ module _ (k : tie.After-seek-i invariant-loop decreases-loop) where
 
   none_here : (t : Table) (g : Term) → IsTable (ws last) t → IsConfiguration (cs last) g → successor_by t (turn last).loop-found.rule g ≡ none
   none_here =
-      λ t g p q. verdict_none (ws last) (cs last) (turn last).loop-found.rule (turn last).loop-found.invariant.1 last.judge-found.result (judged last).verdict t g p q (last.applies.ensures.no k.if-applies.false)
+      λ t g p q. verdict_none (ws last) (cs last) (turn last).loop-found.rule (turn last).loop-found.invariant.1 last.judge-found.result (record { is = (judged last).answer }) t g p q (last.applies.ensures.no k.if-applies.false)
 
 loop-holds : tie.Need-loop-found-init invariant-loop decreases-loop
 loop-holds c = (refl, c.requires.1.0, c.requires.1.2, trying_first c.args.table.now c.args.configuration.now c.args.first c.args.from c.args.to, λ e. refl)
@@ -81,7 +81,7 @@ same_length : tie.Need-shape_of-out-then-applies invariant-loop decreases-loop
 same_length c =
     let w = c.before in
     let l = turn w.before.before.before.before.before in
-    w.write_within.auto.1.1.1.1.1.1.0 ∙ ap length l.loop.inv.0
+    w.write_within.auto.out ∙ ap length l.loop-found.invariant.0
 
 returns : tie.Need-returns-then-applies invariant-loop decreases-loop
 returns c =
@@ -90,17 +90,17 @@ returns c =
     let b = t.before in
     let l = turn b in
     let s = start b in
-    subst (λ (out : List ℤ). CodedAmongIs (ws b) (cs b) s.args.first s.args.from s.args.to out w.write_within.new.out s.args.verdict.now l.loop.verdict w.write_within.result) l.loop.inv.0
-    (one_applies (ws b) (cs b) s.args.first s.args.from s.args.to l.loop.rule l.loop.i l.loop.inv.3 l.loop.inv.1 (starts b) (ends b) b.judge-found.result (judged b) (b.applies.ensures.yes t.if-applies.true) l.loop.out w.write_within.new.out s.args.verdict.now l.loop.verdict w.write_within.result w.write_within.ensures (alone_by (ws b) (cs b) s.args.first s.args.from s.args.to l.loop.inv.3 (starts b) (ends b) b.judge-found.result (judged b) s.args.verdict.now l.loop.verdict (λ e z. l.loop.inv.4 e ∙ (z ∙ sym (ap code (b.applies.ensures.yes t.if-applies.true))))))
+    subst (λ (out : List ℤ). CodedAmongIs (ws b) (cs b) s.args.first s.args.from s.args.to out w.write_within.new.out s.args.verdict.now l.loop-found.verdict w.write_within.result) l.loop-found.invariant.0
+    (one_applies (ws b) (cs b) s.args.first s.args.from s.args.to l.loop-found.rule l.loop-found.i l.loop-found.invariant.3 l.loop-found.invariant.1 (starts b) (ends b) b.judge-found.result (judged b) (b.applies.ensures.yes t.if-applies.true) l.loop-found.out w.write_within.new.out s.args.verdict.now l.loop-found.verdict w.write_within.result w.write_within.ensures (alone_by (ws b) (cs b) s.args.first s.args.from s.args.to l.loop-found.invariant.3 (starts b) (ends b) b.judge-found.result (judged b) s.args.verdict.now l.loop-found.verdict (λ e z. l.loop-found.invariant.4 e ∙ (z ∙ sym (ap code (b.applies.ensures.yes t.if-applies.true))))))
 
 seek-requires : tie.Need-seek-i-requires invariant-loop decreases-loop
-seek-requires c κs = let l = turn c.before.before in (l.before.pre.0.0, l.before.pre.1.1, l.loop.inv.2)
+seek-requires c κs = let l = turn c.before.before in (l.before.requires.0.0, l.before.requires.1.1, l.loop-found.invariant.2)
 
 coded-requires : tie.Need-coded-requires invariant-loop decreases-loop
 coded-requires c κs = search rules
 
 same-length-2 : tie.Need-shape_of-out-then-to-i invariant-loop decreases-loop
-same-length-2 c = let l = turn (last c.before) in ap length l.loop.inv.0
+same-length-2 c = let l = turn (last c.before) in ap length l.loop-found.invariant.0
 
 returns-2 : tie.Need-returns-then-to-i invariant-loop decreases-loop
 returns-2 c =
@@ -108,10 +108,10 @@ returns-2 c =
     let b = last k in
     let l = turn b in
     let s = start b in
-    rw l.loop.inv.0 (none_applies (ws b) (cs b) s.args.first s.args.from s.args.to l.loop.rule l.loop.i l.loop.inv.3 (none_here k) s.args.root k.seek-i.result k.seek-i.ensures s.pre.1.1 s.pre.1.3 s.args.out.now s.args.verdict.now k.coded.result c.if-to-i.true (alone_by (ws b) (cs b) s.args.first s.args.from s.args.to l.loop.inv.3 (starts b) (ends b) b.before.judge.result (judged b) s.args.verdict.now k.coded.result (λ e z. k.coded.ensures)))
+    rw l.loop-found.invariant.0 (none_applies (ws b) (cs b) s.args.first s.args.from s.args.to l.loop-found.rule l.loop-found.i l.loop-found.invariant.3 (none_here k) s.args.root k.seek-i.result k.seek-i.ensures s.requires.1.1 s.requires.1.3 s.args.out.now s.args.verdict.now k.coded.result c.if-to-i.true (alone_by (ws b) (cs b) s.args.first s.args.from s.args.to l.loop-found.invariant.3 (starts b) (ends b) b.judge-found.result (judged b) s.args.verdict.now k.coded.result (λ e z. k.coded.ensures)))
 
 ordered-requires : tie.Need-ordered-rule-requires invariant-loop decreases-loop
-ordered-requires c κs = (start (last c.before)).pre.0.0
+ordered-requires c κs = (start (last c.before)).requires.0.0
 
 add-i : tie.Need-overflow_add-i invariant-loop decreases-loop
 add-i c = let h = c.if-to-i.false in omega arith
@@ -126,11 +126,11 @@ loop-again c =
     let l = turn b in
     let s = start b in
     let h = c.if-to-i.false in (
-      l.loop.inv.0,
-      position_names s.pre.0.0 s.pre.1.1 h c.ordered-rule.ensures,
+      l.loop-found.invariant.0,
+      position_names s.requires.0.0 s.requires.1.1 h c.ordered-rule.ensures,
       omega arith,
-      trying_on (ws b) (cs b) s.args.first s.args.from s.args.to l.loop.rule l.loop.i l.loop.inv.3 (none_here k) s.args.root k.seek-i.result k.seek-i.ensures s.pre.1.1 s.pre.1.3 c.ordered-rule.result h c.ordered-rule.ensures,
-      λ e. absurd (let a = l.loop.inv.3.low in let d = k.seek-i.ensures.low in let z : ⊥ = omega arith in z),
+      trying_on (ws b) (cs b) s.args.first s.args.from s.args.to l.loop-found.rule l.loop-found.i l.loop-found.invariant.3 (none_here k) s.args.root k.seek-i.result k.seek-i.ensures s.requires.1.1 s.requires.1.3 c.ordered-rule.result h c.ordered-rule.ensures,
+      λ e. absurd (let a = l.loop-found.invariant.3.low in let d = k.seek-i.ensures.low in let z : ⊥ = omega arith in z),
     )
 
 pub apply_coded_spec : {M : Type 1} → statement M

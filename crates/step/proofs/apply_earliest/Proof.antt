@@ -30,7 +30,7 @@ returns c =
     let r = k.before in
     let s = start r in
     let a = s.args in
-    none_at_all a.table.now a.configuration.now a.index.now a.out.now s.pre.0 s.pre.1 r.rule_count-count.result r.rule_count-count.ensures r.root-root.result k.seek-first.result r.root-root.ensures k.seek-first.ensures c.if-count-first.true
+    none_at_all a.table.now a.configuration.now a.index.now a.out.now s.requires.0 s.requires.1 r.rule_count-count.result r.rule_count-count.ensures r.root-root.result k.seek-first.result r.root-root.ensures k.seek-first.ensures c.if-count-first.true
 
 ordered-requires : tie.Need-ordered-rule-requires
 ordered-requires c κs = search rules
@@ -45,7 +45,7 @@ apply-among-requires c κs =
     let k = e.before in
     let r = k.before in
     let s = start r in
-    ((s.pre.0, s.pre.1), (position_names s.pre.0 (every r) e.if-count-first.false o.ordered-rule.ensures, every r, (let h = e.if-count-first.false in omega arith), record { is = λ h. r.root-root.ensures }))
+    ((s.requires.0, s.requires.1), (position_names s.requires.0 (every r) e.if-count-first.false o.ordered-rule.ensures, every r, (let h = e.if-count-first.false in omega arith), record { is = λ h. r.root-root.ensures }))
 
 same_length : tie.Need-shape_of-out
 same_length c = search rules
@@ -59,7 +59,7 @@ returns-2 c =
     let r = k.before in
     let s = start r in
     let a = s.args in
-    the_earliest a.table.now a.configuration.now a.index.now a.out.now s.pre.0 s.pre.1 r.rule_count-count.result r.rule_count-count.ensures r.root-root.result k.seek-first.result r.root-root.ensures k.seek-first.ensures o.ordered-rule.result _ _ _ w.apply_among.result e.if-count-first.false o.ordered-rule.ensures w.apply_among.ensures
+    the_earliest a.table.now a.configuration.now a.index.now a.out.now s.requires.0 s.requires.1 r.rule_count-count.result r.rule_count-count.ensures r.root-root.result k.seek-first.result r.root-root.ensures k.seek-first.ensures o.ordered-rule.result _ _ _ w.apply_among.result e.if-count-first.false o.ordered-rule.ensures w.apply_among.ensures
 
 pub apply_earliest_spec : {M : Type 1} → statement M
 apply_earliest_spec =

@@ -47,7 +47,7 @@ part-none-end c = search rules
 apply-among-requires : tie.Need-apply_among-requires
 apply-among-requires c κs =
     let s = start c in
-    ((s.pre.0, s.pre.1), (names c, record { there = λ t p. omega arith }, omega arith, record { is = λ h. absurd (let z : ⊥ = omega arith in z) }))
+    ((s.requires.0, s.requires.1), (names c, record { there = λ t p. omega arith }, omega arith, record { is = λ h. absurd (let z : ⊥ = omega arith in z) }))
 
 returns-2 : tie.Need-returns-then-misfit-ne0
 returns-2 c =
@@ -55,7 +55,7 @@ returns-2 c =
     let m = w.before in
     let s = start m in
     let a = s.args in
-    left_differs_lem a.table.now a.configuration.now a.index.now a.rule s.pre.0 s.pre.1 (names m) _ _ _ w.apply_among.result w.apply_among.ensures c.if-misfit-ne0.true
+    left_differs_lem a.table.now a.configuration.now a.index.now a.rule s.requires.0 s.requires.1 (names m) _ _ _ w.apply_among.result w.apply_among.ensures c.if-misfit-ne0.true
 
 left-requires : tie.Need-left-left-requires
 left-requires c κs = let m = c.before.before.before in ((start m).requires.0, names m)
@@ -71,7 +71,7 @@ returns-3 c =
     let m = w.before in
     let s = start m in
     let a = s.args in
-    left_matches a.table.now a.configuration.now a.index.now a.rule s.pre.0 s.pre.1 (names m) _ _ _ w.apply_among.result w.apply_among.ensures p.left-left.result.from p.left-left.result.to _ p.left-left.ensures e.if-misfit-ne0.false (λ q. omega arith)
+    left_matches a.table.now a.configuration.now a.index.now a.rule s.requires.0 s.requires.1 (names m) _ _ _ w.apply_among.result w.apply_among.ensures p.left-left.result.from p.left-left.result.to _ p.left-left.ensures e.if-misfit-ne0.false (λ q. omega arith)
 
 pub compare_rule_spec : {M : Type 1} → statement M
 compare_rule_spec =

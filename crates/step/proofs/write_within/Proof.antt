@@ -11,11 +11,11 @@ use Rattle.step.proofs.write_within.Statement.{statement}
 use Rattle.step.proofs.write_within.Tie as tie
 
 -- whether it fits, at the room that the out slice gives
-decided : (m : tie.After-fits2) →
-    let a = m.before.before.args in FitsIs a.table.now a.configuration.now a.rule a.starts.now a.ends.now (2 * out_limit (length a.out.now)) m.fits2.result
+decided : (m : tie.After-fits) →
+    let a = m.before.before.args in FitsIs a.table.now a.configuration.now a.rule a.starts.now a.ends.now (2 * out_limit (length a.out.now)) m.fits.result
 decided m =
     let a = m.before.before.args in
-    subst (λ (n : ℕ). FitsIs a.table.now a.configuration.now a.rule a.starts.now a.ends.now (2 * n) m.fits2.result) m.before.out_limit.ensures m.fits2.ensures
+    subst (λ (n : ℕ). FitsIs a.table.now a.configuration.now a.rule a.starts.now a.ends.now (2 * n) m.fits.result) m.out_limit-room.ensures m.fits.ensures
 
 out-limit-requires : tie.Need-out_limit-room-requires
 out-limit-requires c κs = search rules
@@ -27,13 +27,13 @@ fits-requires : tie.Need-fits-requires
 fits-requires c κs = search rules
 
 returns : tie.Need-returns-then-not-fits
-returns c = let m = c.before in let a = m.args in way_large a.table.now a.configuration.now a.rule a.starts.now a.ends.now a.out.now m.fits2.result (decided m) (not-true m.fits2.result c.if-not-fits.true-raw)
+returns c = let m = c.before in let a = m.args in way_large a.table.now a.configuration.now a.rule a.starts.now a.ends.now a.out.now m.fits.result (decided m) (not-true m.fits.result c.if-not-fits.true-raw)
 
 write-successor-requires : tie.Need-write_successor-n-requires
 write-successor-requires c κs =
     let m = c.before.before in
     let a = m.args in
-    (m.requires, fits_out a.table.now a.configuration.now a.rule a.starts.now a.ends.now a.out.now m.fits2.result (decided m) (not-false m.fits2.result c.if-not-fits.false-raw))
+    (m.requires, fits_out a.table.now a.configuration.now a.rule a.starts.now a.ends.now a.out.now m.fits.result (decided m) (not-false m.fits.result c.if-not-fits.false-raw))
 
 action-requires : tie.Need-action-requires
 action-requires c κs = search rules
@@ -47,7 +47,7 @@ returns-2 c =
     let e = w.before.before in
     let m = e.before in
     let a = m.args in
-    way_stepped a.table.now a.configuration.now a.rule a.starts.now a.ends.now a.out.now m.fits2.result (decided m) (not-false m.fits2.result e.if-not-fits.false-raw) w.write_successor-n.result c.action.result _ c.action.ensures w.write_successor-n.ensures
+    way_stepped a.table.now a.configuration.now a.rule a.starts.now a.ends.now a.out.now m.fits.result (decided m) (not-false m.fits.result e.if-not-fits.false-raw) w.write_successor-n.result c.action.result _ c.action.ensures w.write_successor-n.ensures
 
 pub write_within_spec : {M : Type 1} → statement M
 write_within_spec =

@@ -43,7 +43,7 @@ loop-less : tie.Need-loop-i-smaller invariant-loop decreases-loop
 loop-less c = omega (arith, c.loop-i-test.true)
 
 loop-again : tie.Need-loop-i-preserved invariant-loop decreases-loop
-loop-again c = (omega (arith, c.loop-i-test.true), omega (arith, c.put_decimal-next.ensures.1, c.put_byte-behind.ensures.end, c.loop-i.invariant), list_goes decimal c.args.output.now c.args.at c.args.numbers.now c.loop-i.output c.loop-i.next c.loop-i.i c.loop-i.invariant.2 0 _ _ _ _ _ refl c.loop-i-test.true (omega (arith, c.loop-i.invariant.2.same, c.loop-i.invariant.1, c.requires, c.loop-i-test.true)) c.put_byte-behind.ensures c.put_decimal-next.ensures.0 c.put_byte-behind.auto.0 c.put_decimal-next.auto.0)
+loop-again c = (omega (arith, c.loop-i-test.true), omega (arith, c.put_decimal-next.ensures.1, c.put_byte-behind.ensures.end, c.loop-i.invariant), list_goes decimal c.args.output.now c.args.at c.args.numbers.now c.loop-i.output c.loop-i.next c.loop-i.i c.loop-i.invariant.2 0 _ _ _ _ _ refl c.loop-i-test.true (omega (arith, c.loop-i.invariant.2.same, c.loop-i.invariant.1, c.requires, c.loop-i-test.true)) c.put_byte-behind.ensures c.put_decimal-next.ensures.0 c.put_byte-behind.auto.output c.put_decimal-next.auto.output)
 
 same_length : tie.Need-shape_of-output invariant-loop decreases-loop
 same_length c = c.loop-i.invariant.2.same

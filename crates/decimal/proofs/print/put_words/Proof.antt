@@ -30,7 +30,7 @@ same_length : tie.Need-shape_of-output
 same_length c = search rules
 
 returns-2 : tie.Need-returns
-returns-2 c = (all_words c.args.output.now c.args.at c.args.words.now _ _ _ _ _ c.if-words-eq0.false (kept_word _ _ c.element.type-inv c.element.ensures) (omega (arith, c.put_word-next.ensures.1, c.requires, c.if-words-eq0.false)) c.put_word-next.ensures.0 c.put_more_words.ensures.0, words_room_lem c.args.output.now c.args.at c.args.words.now _ _ c.if-words-eq0.false c.put_word-next.ensures.1 c.put_more_words.ensures.1)
+returns-2 c = (all_words c.args.output.now c.args.at c.args.words.now _ _ _ _ _ c.if-words-eq0.false (kept_word _ _ c.element.type_inv c.element.ensures) (omega (arith, c.put_word-next.ensures.1, c.requires, c.if-words-eq0.false)) c.put_word-next.ensures.0 c.put_more_words.ensures.0, words_room_lem c.args.output.now c.args.at c.args.words.now _ _ c.if-words-eq0.false c.put_word-next.ensures.1 c.put_more_words.ensures.1)
 
 pub put_words_spec : {M : Type 1} → statement M
 put_words_spec =

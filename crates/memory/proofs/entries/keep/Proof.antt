@@ -1,5 +1,5 @@
 -- `entries::keep` meets its contract.
-use mathlib.Core.Path.{◌≡◌, subst⁻¹}
+use mathlib.Core.Path.{subst⁻¹}
 use mathlib.Core.List.{List}
 use native.Mathlib.Omega.{arith}
 use lib.IntN.{ℤ}
@@ -37,9 +37,8 @@ ready-requires c κs = search rules
 put-own-requires : tie.Need-put_own-requires
 put-own-requires c κs =
     let r = c.ready in
-    let s = c.before.before.before.before.before.before in
-    let a = s.args in
-    (omega (arith, s.requires.0, r.ensures.inside.wide), s.requires.1, inside_spare a.room a.work.now r.new.0 a.at r.ensures.inside s.requires.3)
+    let a = c.args in
+    (omega (arith, c.requires.0, r.ensures.inside.wide), c.requires.1, inside_spare a.room a.work.now r.new.work a.at r.ensures.inside c.requires.3)
 
 same-length-2 : tie.Need-shape_of-work
 same-length-2 c = search rules

@@ -1,5 +1,4 @@
 -- `entries::put_own` meets its contract.
-use mathlib.Core.Path.{◌≡◌}
 use Prim.Native.Nat.{◌+◌, ◌≤◌, ◌<◌}
 use native.Mathlib.Omega.{arith}
 use lib.ListN.{length}
@@ -51,24 +50,24 @@ number-at-requires : tie.Need-number_at-own-requires
 number-at-requires c κs = search rules
 
 add-put : tie.Need-overflow_add-at-2
-add-put c = omega (arith, (fits c.before.before.before).0)
+add-put c = omega (arith, (fits c.before.before).0)
 
 put-requires : tie.Need-put-requires
 unfolding length_of
-put-requires c κs = let f = fits c.before.before.before in (omega (arith, f.0), omega (arith, f.2, c.number_at-own.ensures))
+put-requires c κs = let f = fits c.before.before in (omega (arith, f.0), omega (arith, f.2, c.number_at-own.ensures))
 
 add-copy-up : tie.Need-overflow_add-at-3
-add-copy-up c = omega (arith, (fits c.before.before.before.before.before.before).0)
+add-copy-up c = omega (arith, (fits c.before.before.before.before.before).0)
 
 add-copy-up-2 : tie.Need-overflow_add-at-4
-add-copy-up-2 c = omega (arith, (fits c.before.before.before.before.before.before).0)
+add-copy-up-2 c = omega (arith, (fits c.before.before.before.before.before).0)
 
 copy-up-requires : tie.Need-copy_up-requires
 unfolding length_of
 copy-up-requires c κs =
-    let f = fits c.before.before.before.before.before.before in
+    let f = fits c.before.before.before.before.before in
     let e = c.number_at-own.ensures in
-    let l = c.put.auto.0 in
+    let l = c.put.auto.words in
     (omega (arith, f.1, e), omega (arith, f.0, e, l))
 
 same-length-2 : tie.Need-shape_of-work
@@ -77,11 +76,8 @@ same-length-2 c = search rules
 returns-2 : tie.Need-returns
 unfolding length_of
 returns-2 c =
-    let n = c.before.before.before.before.before.before in
-    let e = n.before.before in
-    let s = e.before.before.before in
-    let a = s.args in
-    own_puts a.room a.work.now a.at a.words e.slot_at-place.result s.requires.0 (slot e) _ (rw (c.put.ensures, n.number_at-own.ensures) at c.copy_up.ensures)
+    let a = c.args in
+    own_puts a.room a.work.now a.at a.words c.slot_at-place.result c.requires.0 (slot c.before.before.before.before.before.before.before) _ (rw (c.put.ensures, c.number_at-own.ensures) at c.copy_up.ensures)
 
 pub put_own_spec : {M : Type 1} → statement M
 put_own_spec =

@@ -1,5 +1,5 @@
 -- `entries::ready` meets its contract.
-use mathlib.Core.Path.{◌≡◌, subst⁻¹}
+use mathlib.Core.Path.{subst⁻¹}
 use mathlib.Core.Logic.{⊎_elim}
 use mathlib.Core.List.{List}
 use native.Mathlib.Omega.{arith}
@@ -32,9 +32,8 @@ same_length c = search rules
 
 returns : tie.Need-returns-then-own-eq0
 returns c =
-    let s = c.before in
-    let a = s.args in
-    subst⁻¹ (λ (x : List ℤ). Readies a.room a.work.now x a.at a.words) c.put.ensures (opens_readies a.room a.work.now a.at a.words _ (shut_opens a.room a.work.now a.at s.requires.0 s.requires.2))
+    let a = c.args in
+    subst⁻¹ (λ (x : List ℤ). Readies a.room a.work.now x a.at a.words) c.put.ensures (opens_readies a.room a.work.now a.at a.words _ (shut_opens a.room a.work.now a.at c.requires.0 c.requires.2))
 
 slot-at-requires : tie.Need-slot_at-place-requires
 slot-at-requires c κs = search rules
@@ -44,8 +43,7 @@ same-length-2 c = search rules
 
 returns-2 : tie.Need-returns-then-place-ne0
 returns-2 c =
-    let s = c.before.before in
-    let a = s.args in
+    let a = c.args in
     slot_readies a.room a.work.now a.at a.words c.slot_at-place.result (slot_there a.room a.work.now a.at a.words c.slot_at-place.result c.if-place-ne0.true c.slot_at-place.ensures)
 
 larger-requires : tie.Need-larger-requires
@@ -54,20 +52,17 @@ larger-requires c κs = search rules
 lay-out-requires : tie.Need-lay_out-requires
 unfolding length_of
 lay-out-requires c κs =
-    let n = c.before.before.before.before.before.before in
-    let s = n.before.before in
-    let own = n.number_at-own.ensures in
+    let own = c.number_at-own.ensures in
     let l = c.larger.ensures in
-    let long = s.requires.4 in
-    (s.requires.0, s.requires.1, s.requires.2, ⊎_elim (λ e. omega (arith, e, own, long)) (λ e. omega (arith, e, s.requires.3)) l.2, omega (arith, l.0, own))
+    let long = c.requires.4 in
+    (c.requires.0, c.requires.1, c.requires.2, ⊎_elim (λ e. omega (arith, e, own, long)) (λ e. omega (arith, e, c.requires.3)) l.2, omega (arith, l.0, own))
 
 same-length-3 : tie.Need-shape_of-work
 same-length-3 c = search rules
 
 returns-3 : tie.Need-returns
 returns-3 c =
-    let s = c.before.before in
-    let a = s.args in
+    let a = c.args in
     opens_readies a.room a.work.now a.at a.words _ c.lay_out.ensures
 
 pub ready_spec : {M : Type 1} → statement M

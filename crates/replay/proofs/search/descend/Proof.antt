@@ -33,17 +33,15 @@ base-at-requires : tie.Need-base_at-at-requires
 base-at-requires c κs = (c.requires.0.2, omega (arith, fits c))
 
 slice-aggregate-known : tie.Need-slice_bounds-known-end
-slice-aggregate-known c = sym (long c.before)
+slice-aggregate-known c = sym (long c.before.before)
 
 known-requires : tie.Need-known-requires
 known-requires c κs =
-    let b = c.before.before.before in
-    let s = b.before.before in
-    let a = s.args in (
-      omega (arith, fits b.before, b.base_at-at.ensures),
-      s.requires.0.2,
-      subst⁻¹ (OwnFits a.room a.work.now) b.base_at-at.ensures (s.requires.1.1 (a.depth + 1) b.before.if1.true),
-      omega (arith, long b.before, s.requires.1.0.0),
+    let a = c.args in (
+      omega (arith, fits c.before.before, c.base_at-at.ensures),
+      c.requires.0.2,
+      subst⁻¹ (OwnFits a.room a.work.now) c.base_at-at.ensures (c.requires.1.1 (a.depth + 1) c.if-next-actions.true),
+      omega (arith, long c.before.before, c.requires.1.0.0),
     )
 
 same_length : tie.Need-shape_of-work-then-known
@@ -51,22 +49,19 @@ same_length c = search rules
 
 returns : tie.Need-returns-then-known
 returns c =
-    let b = c.before.before.before.before.before in
     let k = c.known.ensures c.if-known.true in
-    inr (inl (b.before.if1.true, refl, refl, k.0, rw b.base_at-at.ensures at k.1))
+    inr (inl (c.if-next-actions.true, refl, refl, k.0, rw c.base_at-at.ensures at k.1))
 
 slice-aggregate-enter : tie.Need-slice_bounds-enter-end
-slice-aggregate-enter c = sym (long c.before.before)
+slice-aggregate-enter c = sym (long c.before.before.before.before.before)
 
 enter-requires : tie.Need-enter-requires
 enter-requires c κs =
-    let b = c.before in
-    let s = b.before.before in
-    let a = s.args in (
-      omega (arith, fits b.before, b.base-at.ensures),
-      omega (arith, long b.before, s.requires.1.0.1),
-      s.requires.0.2,
-      subst⁻¹ (OwnFits a.room a.work.now) b.base-at.ensures (s.requires.1.1 (a.depth + 1) b.before.if1.true),
+    let a = c.args in (
+      omega (arith, fits c.before.before.before.before.before, c.base_at-at.ensures),
+      omega (arith, long c.before.before.before.before.before, c.requires.1.0.1),
+      c.requires.0.2,
+      subst⁻¹ (OwnFits a.room a.work.now) c.base_at-at.ensures (c.requires.1.1 (a.depth + 1) c.if-next-actions.true),
     )
 
 same-length-2 : tie.Need-shape_of-work-then-next-actions
@@ -74,9 +69,8 @@ same-length-2 c = search rules
 
 returns-2 : tie.Need-returns-then-next-actions
 returns-2 c =
-    let b = c.before in
-    let e = rw b.base-at.ensures at c.enter.ensures in
-    inl (b.before.if1.true, refl, e.0, e.1)
+    let e = rw c.base_at-at.ensures at c.enter.ensures in
+    inl (c.if-next-actions.true, refl, e.0, e.1)
 
 returns-3 : tie.Need-returns
 returns-3 c = inr (inr (c.if-next-actions.false, refl, refl))

@@ -28,10 +28,10 @@ turn-requires c κs = let v = c.loop-next.invariant in (v.fits, (v.deep, v.sound
 
 -- what the turn left, and what it says of its answer
 out_after : tie.After-turn-turned invariant-loop decreases-loop → List ℤ
-out_after u = u.turn.new.1.1.1.1.1.1.1.0
+out_after u = u.turn-turned.new.out
 
 work_after : tie.After-turn-turned invariant-loop decreases-loop → List ℤ
-work_after u = u.turn.new.1.1.1.1.1.1.1.1.0
+work_after u = u.turn-turned.new.work
 
 says : (u : tie.After-turn-turned invariant-loop decreases-loop) (r : Turned) → u.turn-turned.result ≡ r → let h = u.before.before.before in let a = h.args in
     TurnContract a.table.now a.rules a.room a.log.now h.loop-next.depth h.loop-next.out h.loop-next.work (out_after u) (work_after u) r

@@ -22,12 +22,10 @@ base-at-requires c κs = (c.requires.0.narrow, omega (arith, fits c.before))
 
 try-at-requires : tie.Need-try_at-answer-requires
 try-at-requires c κs =
-    let b = c.before.before in
-    let s = b.before in
-    let a = s.args in
-    let p = s.requires in (
-      (omega (arith, fits s, b.base_at-at.ensures), p.0.out_fits, omega (arith, p.1.0.1, p.0.rules_are)),
-      (p.0.indexed, rw (b.base_at-at.ensures, ← p.0.rules_are) (p.1.1.1.frames a.depth (omega arith))),
+    let a = c.args in
+    let p = c.requires in (
+      (omega (arith, fits c.before.before.before, c.base_at-at.ensures), p.0.out_fits, omega (arith, p.1.0.1, p.0.rules_are)),
+      (p.0.indexed, rw (c.base_at-at.ensures, ← p.0.rules_are) (p.1.1.1.frames a.depth (omega arith))),
     )
 
 add-set-position : tie.Need-overflow_add-position
@@ -35,9 +33,7 @@ add-set-position c = search rules
 
 set-position-requires : tie.Need-set_position-requires
 set-position-requires c κs =
-    let b = c.before.before.before.before.before in
-    let s = b.before in
-    (omega (arith, fits s, b.base_at-at.ensures), omega (arith, s.requires.1.0.1, s.requires.0.few))
+    (omega (arith, fits c.before.before.before.before.before.before, c.base_at-at.ensures), omega (arith, c.requires.1.0.1, c.requires.0.few))
 
 -- what `try_at` answers and leaves, at the frame's place
 tried : (c : tie.After-try_at-answer) → let a = c.before.args in
@@ -46,16 +42,14 @@ tried c = rw c.base_at-at.ensures at c.try_at-answer.ensures
 
 settle-requires : tie.Need-settle-requires
 settle-requires c κs =
-    let k = c.before.before.before.before.before.before in
-    let s = k.before.before in
-    let a = s.args in
-    let p = s.requires in
-    let e : length c.before.before.before.set-position.new.0 ≡ length a.work.now = c.set_position.auto.0 in (
+    let a = c.args in
+    let p = c.requires in
+    let e : length c.set_position.new.work ≡ length a.work.now = c.set_position.auto.work in (
       (p.1.0.0, omega (arith, e, p.0.work_fits), p.0.narrow),
       (
         made_within a.table.now a.index.now a.rules a.room a.log.now a.out.now a.work.now a.depth p.0 p.1.0.0 p.1.1.1 a.position p.1.1.0 p.1.0.1
-            k.try_at-answer.new.out k.try_at-answer.result (tried k),
-        rw (c.set_position.ensures, k.base_at-at.ensures) (spare_within a.table.now a.index.now a.rules a.room a.log.now a.out.now a.work.now a.depth p.0 p.1.0.0 p.1.1.1 a.position p.1.1.0 p.1.0.1),
+            c.try_at-answer.new.out c.try_at-answer.result (tried c.before.before.before.before.before),
+        rw (c.set_position.ensures, c.base_at-at.ensures) (spare_within a.table.now a.index.now a.rules a.room a.log.now a.out.now a.work.now a.depth p.0 p.1.0.0 p.1.1.1 a.position p.1.1.0 p.1.0.1),
       ),
     )
 
@@ -67,12 +61,10 @@ same-length-2 c = search rules
 
 returns : tie.Need-returns
 returns c =
-    let k = c.before.before.before.before.before.before.before.before in
-    let s = k.before.before in
-    let a = s.args in
-    let p = s.requires in
+    let a = c.args in
+    let p = c.requires in
     turned a.table.now a.index.now a.rules a.room a.log.now a.out.now a.work.now a.depth p.0 p.1.0.0 p.1.1.1 a.position p.1.1.0 p.1.0.1
-    k.try_at-answer.new.out k.try_at-answer.result (tried k) a.remember _ _ (rw (c.set_position.ensures, k.base_at-at.ensures) at c.settle.ensures)
+    c.try_at-answer.new.out c.try_at-answer.result (tried c.before.before.before.before.before.before.before) a.remember _ _ (rw (c.set_position.ensures, c.base_at-at.ensures) at c.settle.ensures)
 
 pub go_on_spec : {M : Type 1} → statement M
 go_on_spec =

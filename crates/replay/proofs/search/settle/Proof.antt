@@ -1,5 +1,5 @@
 -- `search::settle` meets its contract.
-use mathlib.Core.Path.{◌≡◌, refl, subst, subst⁻¹}
+use mathlib.Core.Path.{◌≡◌, refl, subst}
 use Prim.Native.Nat.{ℕ, ◌*◌, ◌≤◌, ◌<◌}
 use native.Mathlib.Omega.{arith}
 use lib.ListN.{length}
@@ -24,17 +24,16 @@ enum-known-answer c = search rules
 
 mul-descend : tie.Need-overflow_mul-nodes
 mul-descend c =
-    let s = c.before in
-    let g = c.answer-1.given in
-    omega (arith, made s.args.answer g.0.0 g.0.1.0 g.0.1.1.0 s.args.room (length s.args.out.now) g.1 s.requires.1.0)
+    let a = c.args in
+    let g = c.in-Stepped in
+    omega (arith, made a.answer g.rule g.action g.nodes a.room (length a.out.now) g.is c.requires.1.0)
 
 descend-requires : tie.Need-descend-requires
 descend-requires c κs =
-    let b = c.before in
-    let s = b.before in
-    let g = b.answer-1.given in
-    let m = made s.args.answer g.0.0 g.0.1.0 g.0.1.1.0 s.args.room (length s.args.out.now) g.1 s.requires.1.0 in
-    (s.requires.0, ((omega (arith, m.0), m.1, m.2), s.requires.1.1))
+    let a = c.args in
+    let g = c.in-Stepped in
+    let m = made a.answer g.rule g.action g.nodes a.room (length a.out.now) g.is c.requires.1.0 in
+    (c.requires.0, ((omega (arith, m.0), m.1, m.2), c.requires.1.1))
 
 returns : tie.Need-returns-in-Stuck
 returns c = rw c.in-Stuck.is (refl, refl)

@@ -21,7 +21,7 @@ base-at-requires c κs = (c.requires.0.narrow, omega (arith, fits c.before))
 
 position-requires : tie.Need-position-from-requires
 position-requires c κs =
-    let s = c.before in
+    let s = c.before.before in
     omega (arith, fits s, c.base_at-at.ensures)
 
 mul-seek : tie.Need-offset_bounds-log-depth
@@ -35,15 +35,17 @@ seek-requires c κs =
     let f = c.before in
     let s = f.before in
     let p = s.requires in
-    let e = f.position-from.ensures in
-    (p.0.indexed, (p.0.rules_are, rw (e, f.base_at-at.ensures) (p.1.1.frames s.args.depth (omega arith)).position))
+    let from : f.position-from.result ≤ s.args.rules = rw (f.position-from.ensures, f.base_at-at.ensures) (p.1.1.frames s.args.depth (omega arith)).position in
+    (p.0.indexed, (p.0.rules_are, omega arith))
 
 -- what `seek` tells, from the frame's own position on
 sought : (c : tie.After-seek-position) → let a = c.before.args in
     Sought (table_of a.table.now) a.rules (get_or a.log.now a.depth 0) (position_at a.room a.work.now a.depth) c.seek-position.result
 sought c =
     let f = c.before.before in
-    rw (f.position-from.ensures, f.base_at-at.ensures) at c.seek-position.ensures
+    let a = f.args in
+    let from : Sought (table_of a.table.now) a.rules (get_or a.log.now a.depth 0) f.position-from.result c.seek-position.result = c.seek-position.ensures in
+    rw (f.position-from.ensures, f.base_at-at.ensures) at from
 
 go-on-requires : tie.Need-go_on-requires
 go-on-requires c κs =

@@ -1,6 +1,6 @@
 -- `match_left` meets its contract. The invariant: of every left and configuration that stand there, the walk is where `Walking` says.
 use mathlib.Core.Path.{◌≡◌, refl}
-use Prim.Native.Nat.{ℕ, suc, ◌+◌, ◌-◌, ◌*◌, ◌/◌, ◌^◌, ◌<◌}
+use Prim.Native.Nat.{ℕ, ◌+◌, ◌-◌, ◌*◌, ◌^◌, ◌<◌}
 use native.Mathlib.Omega.{arith}
 use borrow.Author.Rules.{rules}
 use lib.ListN.{get_or}
@@ -33,16 +33,16 @@ loop-holds : tie.Need-loop-i-init invariant-loop decreases-loop
 loop-holds c = (0, omega arith, λ l g x y. begins c.args.starts.now x y, λ v z. refl)
 
 turn-at-requires : tie.Need-turn_at-turn-requires invariant-loop decreases-loop
-turn-at-requires c κs = from c.before.before
+turn-at-requires c κs = from c
 
 add-i : tie.Need-overflow_add-i invariant-loop decreases-loop
-add-i c = let r = room (from c.before.before.before) in search rules
+add-i c = let r = room (from c.before) in search rules
 
 enum_told : tie.Need-enum_told-1 invariant-loop decreases-loop
 enum_told c = search rules
 
 add-j : tie.Need-overflow_add-j invariant-loop decreases-loop
-add-j c = let r = room (from c.before.before.before.before) in search rules
+add-j c = let r = room (from c.before.before) in search rules
 
 loop-less : tie.Need-loop-i-smaller-in-Same invariant-loop decreases-loop
 loop-less c = search rules
@@ -50,25 +50,25 @@ loop-less c = search rules
 loop-again : tie.Need-loop-i-preserved-in-Same invariant-loop decreases-loop
 loop-again c =
     let t = c.before in
-    let n = t.before.before.before in
+    let n = t.before in
     (n.loop-i.invariant.0 + 1, omega (arith, n.loop-i.invariant.1), λ l g x y. turn t.turn_at-turn.ensures c.in-Same.is n.loop-i-test.true (n.loop-i.invariant.2 l g x y), n.loop-i.invariant.3)
 
 enum-known-turn : tie.Need-enum_known-turn invariant-loop decreases-loop
 enum-known-turn c = search rules
 
 -- a variable that is bound has a place in the arrays, and its part's start and end are places of the configuration
-low : (c : tie.In-Bind-2 invariant-loop decreases-loop) → (c.in-Bind.v < 16) × (0 < c.in-Bind.e)
+low : (c : tie.In-Bind invariant-loop decreases-loop) → (c.in-Bind.v < 16) × (0 < c.in-Bind.e)
 low c =
-    let n = from c.before.before.before.before in
+    let n = from c.before.before in
     let t = turn c.turn_at-turn.ensures c.in-Bind.is n.before n.walking in
     (t.0, t.1)
 
-small : (c : tie.In-Bind-2 invariant-loop decreases-loop) → (c.loop-i.j < 2 ^ 32) × (c.in-Bind.e < 2 ^ 32)
+small : (c : tie.In-Bind invariant-loop decreases-loop) → (c.loop-i.j < 2 ^ 32) × (c.in-Bind.e < 2 ^ 32)
 small c =
-    let l = c.before.before.before.before in
+    let l = c.before.before in
     let n = from l in
     let t = turn c.turn_at-turn.ensures c.in-Bind.is n.before n.walking in
-    let h = few_words l.before.before.requires.1.is in
+    let h = few_words l.requires.1.is in
     (omega (arith, (room n).grounded), omega (arith, t.2))
 
 put-requires : tie.Need-put-requires invariant-loop decreases-loop
@@ -83,10 +83,10 @@ loop-less-2 c = search rules
 loop-again-2 : tie.Need-loop-i-preserved-in-Bind invariant-loop decreases-loop
 loop-again-2 c =
     let t = c.before.before.before.before in
-    let n = t.before.before.before.before in
+    let n = t.before.before in
     let ps = c.put.ensures in
     let pe = c.put-in-Bind.ensures in
-    (n.loop-i.invariant.0 + 1, omega (arith, n.loop-i.invariant.1), λ l g x y. (turn t.turn_at-turn.ensures t.in-Bind.is n.loop-i-test.true (n.loop-i.invariant.2 l g x y)).3 c.put.new.s c.put-in-Bind.new.s ps pe, kept n.before.before.args.starts.now (low t).1 ps pe n.loop-i.invariant.3)
+    (n.loop-i.invariant.0 + 1, omega (arith, n.loop-i.invariant.1), λ l g x y. (turn t.turn_at-turn.ensures t.in-Bind.is n.loop-i-test.true (n.loop-i.invariant.2 l g x y)).3 c.put.new.s c.put-in-Bind.new.s ps pe, kept n.args.starts.now (low t).1 ps pe n.loop-i.invariant.3)
 
 enum-known-turn-2 : tie.Need-enum_known-turn-in-Again-1 invariant-loop decreases-loop
 enum-known-turn-2 c = search rules
@@ -97,7 +97,7 @@ loop-less-3 c = search rules
 loop-again-3 : tie.Need-loop-i-preserved invariant-loop decreases-loop
 loop-again-3 c =
     let t = c in
-    let n = t.before.before.before.before in
+    let n = t.before.before in
     (n.loop-i.invariant.0 + 1, omega (arith, n.loop-i.invariant.1), λ l g x y. turn t.turn_at-turn.ensures t.in-Again.is n.loop-i-test.true (n.loop-i.invariant.2 l g x y), n.loop-i.invariant.3)
 
 enum-told-2 : tie.Need-enum_told-in-Misfit invariant-loop decreases-loop
@@ -112,7 +112,7 @@ sub-t23 c = let e = c.requires.0.is.ends in omega arith
 returns : tie.Need-returns-in-Misfit invariant-loop decreases-loop
 returns c =
     let t = c.before in
-    let n = t.before.before.before in
+    let n = t.before in
     record { each = λ l g x y. not_matched x y (turn t.turn_at-turn.ensures c.in-Misfit.is n.loop-i-test.true (n.loop-i.invariant.2 l g x y)) (let e = n.loop-i.invariant.1 in omega arith); parts = held (walking n.before); keeps = n.loop-i.invariant.3 }
 
 returns-2 : tie.Need-returns invariant-loop decreases-loop

@@ -123,8 +123,8 @@ add-e : tie.Need-overflow_add-e
 add-e c =
     let z = start c.before.before.before in
     let w = within c in
-    let r = room z.pre in
-    record { fits = omega (arith, w.0, w.1, r.grounded, z.good.1.1.0.1) }
+    let r = room z.requires in
+    record { fits = omega (arith, w.0, w.1, r.grounded, z.well_formed.1.1.0.1) }
 
 returns-6 : tie.Need-returns-then-configuration-e
 returns-6 c =
@@ -135,7 +135,7 @@ mul-same : tie.Need-offset_bounds-configuration-from
 mul-same c =
     let z = start c.before.before.before.before in
     let w = within c.before in
-    record { fits = omega (arith, w.0, w.1, z.good.1.1.0.1) }
+    record { fits = omega (arith, w.0, w.1, z.well_formed.1.1.0.1) }
 
 sub_same : tie.Need-slice_bounds-same-count
 sub_same c = (within c.before).0

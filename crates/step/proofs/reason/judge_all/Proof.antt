@@ -80,7 +80,7 @@ returns c =
     let p = j.before in
     let s = start p in
     let l = (turn p).loop-i in
-    judged_first s.args.table.now s.args.configuration.now s.args.count (every p) l.i l.verdicts l.inv.1 (below p) p.ordered-rule.result p.ordered-rule.ensures (named p) j.judge_alone-found.result j.judge_alone-found.ensures (c.applies.ensures.yes c.if-applies.true)
+    judged_first s.args.table.now s.args.configuration.now s.args.count (every p) l.i l.verdicts l.invariant.1 (below p) p.ordered-rule.result p.ordered-rule.ensures (named p) j.judge_alone-found.result j.judge_alone-found.ensures (c.applies.ensures.yes c.if-applies.true)
 
 coded-requires : tie.Need-coded-requires invariant-loop decreases-loop
 coded-requires c κs = search rules
@@ -112,7 +112,7 @@ loop-again c =
     let r = (turn p).root-root in (
       c.seek-i-in-loop-i.ensures.high,
       rw c.coded.ensures (judging_past s.args.table.now s.args.configuration.now s.args.count (every p) (l.i + 1) _ (put_it e) r.result c.seek-i-in-loop-i.result r.ensures c.seek-i-in-loop-i.ensures),
-      length-set l.verdicts p.ordered.result c.coded.result ∙ l.inv.2,
+      length-set l.verdicts p.ordered-rule.result c.coded.result ∙ l.invariant.2,
     )
 
 same-length-2 : tie.Need-shape_of-verdicts invariant-loop decreases-loop

@@ -1,5 +1,4 @@
 -- `update_parts` meets its contract: each argument stands where the one in front of it ends.
-use native.Mathlib.Omega.{arith}
 use borrow.Author.Rules.{rules}
 use Rattle.step.proofs.UpdateLaw.{first_needs, second_needs, third_needs, parts_are}
 use Rattle.step.proofs.right.update_parts.Statement.{statement}

@@ -35,7 +35,7 @@ loop-again c =
     let w = c.write_item-x in
     let l = c.before.before.before.before in
     let s = l.before in
-    (w.auto.1.1.1.1.1.1.0 ∙ l.loop-i.invariant.0, writing_on s.args.table.now s.args.configuration.now s.args.starts.now s.args.ends.now s.args.at s.args.end s.args.out.now l.loop-i.i l.loop-i.o l.loop-i.out l.loop-i.invariant.1 _ _ w.ensures.item w.result.place w.new.1.1.1.1.1.1.0 w.ensures.puts.leaves w.ensures.puts.next)
+    (w.auto.out ∙ l.loop-i.invariant.0, writing_on s.args.table.now s.args.configuration.now s.args.starts.now s.args.ends.now s.args.at s.args.end s.args.out.now l.loop-i.i l.loop-i.o l.loop-i.out l.loop-i.invariant.1 _ _ w.ensures.item w.result.place w.new.out w.ensures.puts.leaves w.ensures.puts.next)
 
 same_length : tie.Need-shape_of-out invariant-loop decreases-loop
 same_length c = c.loop-i.invariant.0

@@ -40,7 +40,7 @@ enum_told : tie.Need-enum_told-1
 enum_told c = search rules
 
 hold-conditions-requires : tie.Need-hold_conditions-requires
-hold-conditions-requires c κs = let t = c.before in let m = t.before.before in ((start m).requires.0, matched m t.in-All.field-0 t.in-All.is)
+hold-conditions-requires c κs = let m = c.before in ((start m).requires.0, matched m c.in-All.field-0 c.in-All.is)
 
 enum-known-number : tie.Need-enum_known-number
 enum-known-number c = search rules
@@ -59,14 +59,14 @@ returns-2 : tie.Need-returns-in-Until-hold_conditions
 returns-2 c =
     let k = c in
     let h = k.before in
-    let t = h.before.before in
-    by_conditions t.before.before t.in-All.field-0 t.in-All.is h.hold_conditions.result h.hold_conditions.ensures _ (sym (ap verdict_held k.in-Until-hold_conditions.is))
+    let t = h.before in
+    by_conditions t.before t.in-All.field-0 t.in-All.is h.hold_conditions.result h.hold_conditions.ensures _ (sym (ap verdict_held k.in-Until-hold_conditions.is))
 
 returns-3 : tie.Need-returns-in-All-hold_conditions
 returns-3 c =
     let h = c.before in
-    let t = h.before.before in
-    by_conditions t.before.before t.in-All.field-0 t.in-All.is h.hold_conditions.result h.hold_conditions.ensures _ (sym (ap verdict_held c.in-All-hold_conditions.is))
+    let t = h.before in
+    by_conditions t.before t.in-All.field-0 t.in-All.is h.hold_conditions.result h.hold_conditions.ensures _ (sym (ap verdict_held c.in-All-hold_conditions.is))
 
 pub judge_spec : {M : Type 1} → statement M
 judge_spec =
