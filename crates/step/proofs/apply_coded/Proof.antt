@@ -27,11 +27,11 @@ decreases-loop table index configuration first from to root out₀ verdict₀ st
 
 -- behind a rule's judgement
 module _ (b : tie.After-applies invariant-loop decreases-loop) where
-  abbrev turn : tie.At-loop-found invariant-loop decreases-loop
-  turn = b.before.before.before.before
+  abbrev turn : tie.After-applies invariant-loop decreases-loop
+  turn = b
 
-  abbrev start : tie.Start invariant-loop decreases-loop
-  start = turn.before
+  abbrev start : tie.After-applies invariant-loop decreases-loop
+  start = b
 
   abbrev ws : List ℤ
   ws = start.args.table.now
