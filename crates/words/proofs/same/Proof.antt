@@ -5,7 +5,7 @@ use mathlib.Core.List.{List}
 use Prim.Native.Nat.{ℕ, ◌+◌, ◌-◌, ◌≤◌, ◌<◌}
 use native.Mathlib.Nat.{eq-or-lt_of_le}
 use native.Mathlib.Omega.{arith}
-use borrow.Author.Rules.{rules, sfits_of}
+use borrow.Author.Rules.{rules}
 use lib.IntN.{ℤ, pos}
 use lib.ListN.{length, get_or}
 use lib.Seq.{ext_get_or}
@@ -59,8 +59,8 @@ loop-again c =
     let l = c.before.before.before.before.loop-i in
     let a = c.before.before.before.before.before.before.args.a.now in
     let b = c.before.before.before.before.before.before.args.b.now in
-    let f : SFits w64 (get_or a l.i (pos 0)) = sfits_of c.before.before.t10-1.given in
-    let g : SFits w64 (get_or b l.i (pos 0)) = sfits_of c.before.t13-1.given in
+    let f : SFits w64 (get_or a l.i (pos 0)) = search rules in
+    let g : SFits w64 (get_or b l.i (pos 0)) = search rules in
     let e : get_or a l.i (pos 0) ≡ get_or b l.i (pos 0) = sym (to_z-of_z f) ∙ (ap (to_z w64) c.if-a-i.false ∙ to_z-of_z g) in
     (omega arith, l.invariant.1, λ j h. ⊎_elim (λ q. rw q e) (λ q. l.invariant.2 j (omega arith)) (eq-or-lt_of_le (next_le l.i j h)))
 
