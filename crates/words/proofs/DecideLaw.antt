@@ -1,5 +1,5 @@
 -- A test that decides a fact.
-use mathlib.Core.Path.{◌≡◌, sym}
+use mathlib.Core.Path.{sym}
 use mathlib.Core.Bool.{true, false, true≢false}
 use Rattle.minuska.specs.Bridge.Place.{Decides}
 

@@ -1,5 +1,5 @@
 -- `same_by_ends` meets its contract: slices whose ends differ differ.
-use mathlib.Core.Path.{◌≡◌, ap}
+use mathlib.Core.Path.{ap}
 use mathlib.Core.List.{List}
 use Prim.Native.Nat.{ℕ, ◌-◌}
 use lib.IntN.{ℤ}
