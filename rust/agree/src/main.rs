@@ -83,11 +83,14 @@ fn generate(calls: usize, seed: u64) -> Result<String, String> {
     let start = Instant::now();
     let mut counts = Counts::new();
     let fixed = limits::calls();
-    let mut source = Calls::new(seed);
+    let (mut source, mut stuck) = (Calls::new(seed), Calls::new(seed));
     let random = calls.saturating_sub(fixed.len());
     let generated = (0..random).map(|_| source.next_call());
-    let total = fixed.len() + random;
-    for call in Progress::new(fixed.into_iter().chain(generated), total) {
+    // As many calls of `reasons` as there are of a middling routine.
+    let more = random / 11;
+    let reasons = (0..more).map(|_| stuck.next_reasons());
+    let total = fixed.len() + random + more;
+    for call in Progress::new(fixed.into_iter().chain(generated).chain(reasons), total) {
         perform(&call, &mut counts).map_err(|text| format!("mismatch, seed {seed}: {text}"))?;
     }
     print_counts(&counts);

@@ -9,10 +9,7 @@ use interpreter::{Routines, Tree};
 use std::cmp::Ordering;
 use std::collections::BTreeMap;
 
-const CALLS: usize = 44_000;
-
-/// More of them where replays are asked for in which paths meet.
-const SEARCHED: usize = 56_000;
+const CALLS: usize = 40_000;
 
 /// The answers that each routine gives.
 const ANSWERS: [(&str, &[&str]); 8] = [
@@ -71,9 +68,14 @@ const ANSWERS: [(&str, &[&str]); 8] = [
 #[test]
 fn every_kind_of_answer() {
     let mut counts: BTreeMap<String, usize> = BTreeMap::new();
-    let mut calls = Calls::new(3);
-    for _ in 0..CALLS {
-        let call = calls.next_call();
+    let (mut calls, mut stuck) = (Calls::new(3), Calls::new(3));
+    let reasons = CALLS / 11;
+    for number in 0..CALLS + reasons {
+        let call = if number < CALLS {
+            calls.next_call()
+        } else {
+            stuck.next_reasons()
+        };
         let answer = perform(&call, &Tree).answer;
         let kind = format!("{} {}", call.routine(), answer.kind());
         *counts.entry(kind).or_default() += 1;
@@ -263,7 +265,7 @@ fn assert_functions(values: &Values) {
 fn searches() {
     let mut counts: BTreeMap<String, usize> = BTreeMap::new();
     let mut calls = Calls::new(6);
-    for _ in 0..SEARCHED {
+    for _ in 0..CALLS {
         let call = calls.next_call();
         let Call::Replay {
             table,

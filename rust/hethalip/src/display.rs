@@ -20,7 +20,7 @@ impl Display for Refusal {
                 "the limit is 0, above 32,768, or below the configuration's node count; choose one from that count to 32,768"
             }
             Refusal::ShortBuffer => {
-                "a lent buffer is too short; lend out and spare twice the limit, choices the log's length, work what work_len says, a list of reasons two words a rule"
+                "a lent buffer is too short; lend out and spare twice the limit, choices the log's length, work what work_len says"
             }
         };
         write!(f, "refused {}: {text}", self.number())

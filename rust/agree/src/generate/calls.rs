@@ -54,18 +54,17 @@ impl Calls {
         };
     }
 
-    /// The next call.
+    /// The next call, of any routine but `reasons`.
     pub fn next_call(&mut self) -> Call {
         self.take_turn();
-        match self.rng.below(120) {
+        match self.rng.below(110) {
             0..6 => self.check_table(),
             6..11 => self.check_configuration(),
             11..30 => self.step(),
             30..46 => self.step_by_rule(),
             46..65 => self.run(),
             65..100 => self.replay(),
-            100..110 => self.match_rule(),
-            _ => self.reasons(),
+            _ => self.match_rule(),
         }
     }
 
@@ -75,7 +74,7 @@ impl Calls {
         self.match_rule()
     }
 
-    /// The next call of `reasons`, for whoever wants no others.
+    /// The next call of `reasons`.
     pub fn next_reasons(&mut self) -> Call {
         self.take_turn();
         self.reasons()
