@@ -9,34 +9,67 @@ use crate::{DICTIONARY, MAX_ENTRIES, SYMBOLS};
 // How many tags there are, those of no node too.
 const TAGS: usize = 16;
 
+// The nodes of a ground term by tag: the least datum, the most, the child count. A tag that it has none of has an empty range.
+// Columns, and not a list of rows: an entry is found with two instructions less. And no match by kinds: so no branch goes by the tag.
+struct Nodes {
+    least: [i64; TAGS],
+    most: [i64; TAGS],
+    children: [usize; TAGS],
+}
+
+// The most datum of a tag that no ground term has.
+const NO_VARIABLE: i64 = -1;
+
+const NO_CALL: i64 = -1;
+
+const NO_NODE: i64 = -1;
+
+// A dictionary's: its datum counts its children, so that a walk looks at it apart.
+const ELSEWHERE: i64 = -1;
+
 const LEAST_SYMBOL: i64 = 0;
 
 const MOST_SYMBOL: i64 = SYMBOLS - 1;
 
-// A tag's row: the least and the most datum of its nodes in a ground term, and how many children they have.
-type Row = (i64, i64, usize);
-
-const NONE: Row = (0, -1, 0);
-
-// The rows by tag. A list and no match by kinds, so that no branch goes by the tag.
-static ROWS: [Row; TAGS] = [
-    (0, 0, 0), // an error
-    (0, 1, 0), // a truth value
-    (i64::MIN, i64::MAX, 0), // a whole number
-    NONE, // a variable
-    NONE, // a call
-    NONE, // a dictionary: its datum counts its children, so that a walk looks at it apart
-    NONE, // no node
-    NONE, // no node
-    (LEAST_SYMBOL, MOST_SYMBOL, 0), // a symbol
-    (LEAST_SYMBOL, MOST_SYMBOL, 1),
-    (LEAST_SYMBOL, MOST_SYMBOL, 2),
-    (LEAST_SYMBOL, MOST_SYMBOL, 3),
-    (LEAST_SYMBOL, MOST_SYMBOL, 4),
-    (LEAST_SYMBOL, MOST_SYMBOL, 5),
-    (LEAST_SYMBOL, MOST_SYMBOL, 6),
-    (LEAST_SYMBOL, MOST_SYMBOL, 7),
-];
+static NODES: Nodes = Nodes {
+    least: [
+        0,
+        0,
+        i64::MIN,
+        0,
+        0,
+        0,
+        0,
+        0,
+        LEAST_SYMBOL,
+        LEAST_SYMBOL,
+        LEAST_SYMBOL,
+        LEAST_SYMBOL,
+        LEAST_SYMBOL,
+        LEAST_SYMBOL,
+        LEAST_SYMBOL,
+        LEAST_SYMBOL,
+    ],
+    most: [
+        0,
+        1,
+        i64::MAX,
+        NO_VARIABLE,
+        NO_CALL,
+        ELSEWHERE,
+        NO_NODE,
+        NO_NODE,
+        MOST_SYMBOL,
+        MOST_SYMBOL,
+        MOST_SYMBOL,
+        MOST_SYMBOL,
+        MOST_SYMBOL,
+        MOST_SYMBOL,
+        MOST_SYMBOL,
+        MOST_SYMBOL,
+    ],
+    children: [0, 0, 0, 0, 0, 0, 0, 0, 0, 1, 2, 3, 4, 5, 6, 7],
+};
 
 // The child count of two words that are a node of a ground term whose tag alone says how many children it has: any but a dictionary.
 pub fn tagged_children(t: i64, d: i64) -> Option<usize>
@@ -47,9 +80,8 @@ pub fn tagged_children(t: i64, d: i64) -> Option<usize>
     if TAGS <= tag {
         return None;
     }
-    let (least, most, children) = ROWS[tag];
-    if least <= d && d <= most {
-        return Some(children);
+    if NODES.least[tag] <= d && d <= NODES.most[tag] {
+        return Some(NODES.children[tag]);
     }
     None
 }

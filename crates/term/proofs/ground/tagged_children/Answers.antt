@@ -3,41 +3,44 @@ use Rattle.std.proofs.Common.{◌≡◌, ℕ, ℤ, pos, rules, arith, w64, FitsS
 use Rattle.std.specs.Int.Signed.{le_z}
 use Rattle.std.proofs.lemmas.Grind.{common_steps}
 use Rattle.std.proofs.lemmas.Int.{ints, to_z-of_z}
-use Rattle.term.specs.declared.ground.TheConstants.{ROWS}
-use Rattle.term.proofs.GroundLaw.{row_count, row_inside, row_below, row_above}
+use Rattle.term.specs.declared.ground.TheConstants.{NODES}
+use Rattle.term.proofs.GroundLaw.{children_entry, between, below_least, above_most}
 use Rattle.term.proofs.ground.tagged_children.Goals as goal
-use Rattle.term.proofs.ground.tagged_children.Goals.{else-least-d-via-then-least-d+else-d-most, else-least-d-via-else-least-d}
+use Rattle.term.proofs.ground.tagged_children.Goals.{else-tag-d-via-then-tag-d+else-d-tag, else-tag-d-via-else-tag-d}
 
-abbrev row : ℕ → ℤ × ℤ × ℕ
-row tag = get_or ROWS tag (pos 0, pos 0, 0)
+abbrev least : ℕ → ℤ
+least tag = get_or NODES.least tag (pos 0)
 
-pub returns-then-d-most-clause-node : goal.returns-then-d-most-clause-node
-returns-then-d-most-clause-node c =
+abbrev most : ℕ → ℤ
+most tag = get_or NODES.most tag (pos 0)
+
+pub returns-then-d-tag-clause-node : goal.returns-then-d-tag-clause-node
+returns-then-d-tag-clause-node c =
     let p : c.args.t ≡ pos c.in_ok-tag.tag = grind (arith, ints, common_steps) in
     let d : FitsSigned w64 c.args.d = c.ranges.d in
-    let l : FitsSigned w64 (row c.in_ok-tag.tag).0 = search rules in
-    let m : FitsSigned w64 (row c.in_ok-tag.tag).1 = search rules in
-    let g : le_z (to_z w64 (of_z w64 (row c.in_ok-tag.tag).0)) (to_z w64 (of_z w64 c.args.d)) ≡ true = c.if-least-d.true in
-    let h : le_z (to_z w64 (of_z w64 c.args.d)) (to_z w64 (of_z w64 (row c.in_ok-tag.tag).1)) ≡ true = c.if-d-most.true in
-    row_inside c.args.t c.args.d c.in_ok-tag.tag _ d p c.if-tag-ge-TAGS.false (rw (to_z-of_z w64 _ l, to_z-of_z w64 _ d) at g) (rw (to_z-of_z w64 _ d, to_z-of_z w64 _ m) at h)
+    let l : FitsSigned w64 (least c.in_ok-tag.tag) = search rules in
+    let m : FitsSigned w64 (most c.in_ok-tag.tag) = search rules in
+    let g : le_z (to_z w64 (of_z w64 (least c.in_ok-tag.tag))) (to_z w64 (of_z w64 c.args.d)) ≡ true = c.if-tag-d.true in
+    let h : le_z (to_z w64 (of_z w64 c.args.d)) (to_z w64 (of_z w64 (most c.in_ok-tag.tag))) ≡ true = c.if-d-tag.true in
+    between c.args.t c.args.d c.in_ok-tag.tag d p c.if-tag-ge-TAGS.false (rw (to_z-of_z w64 _ l, to_z-of_z w64 _ d) at g) (rw (to_z-of_z w64 _ d, to_z-of_z w64 _ m) at h)
 
-pub returns-then-d-most-clause-count : goal.returns-then-d-most-clause-count
-returns-then-d-most-clause-count c =
+pub returns-then-d-tag-clause-count : goal.returns-then-d-tag-clause-count
+returns-then-d-tag-clause-count c =
     let p : c.args.t ≡ pos c.in_ok-tag.tag = grind (arith, ints, common_steps) in
-    row_count c.args.t c.in_ok-tag.tag _ p c.if-tag-ge-TAGS.false
+    rw p (children_entry c.in_ok-tag.tag c.if-tag-ge-TAGS.false)
 
 pub returns-clause-node : goal.returns-clause-node
 returns-clause-node c =
     let p : c.args.t ≡ pos c.in_ok-tag.tag = grind (arith, ints, common_steps) in
     let d : FitsSigned w64 c.args.d = c.ranges.d in
-    let l : FitsSigned w64 (row c.in_ok-tag.tag).0 = search rules in
-    elim c.else-least-d.branch [
-      | else-least-d-via-then-least-d+else-d-most w ↦
-          let m : FitsSigned w64 (row c.in_ok-tag.tag).1 = search rules in
-          let g : le_z (to_z w64 (of_z w64 (row c.in_ok-tag.tag).0)) (to_z w64 (of_z w64 c.args.d)) ≡ true = w.if-least-d.true in
-          let h : le_z (to_z w64 (of_z w64 c.args.d)) (to_z w64 (of_z w64 (row c.in_ok-tag.tag).1)) ≡ false = w.if-d-most.false in
-          row_above c.args.t c.args.d c.in_ok-tag.tag _ d p c.if-tag-ge-TAGS.false (rw (to_z-of_z w64 _ l, to_z-of_z w64 _ d) at g) (rw (to_z-of_z w64 _ d, to_z-of_z w64 _ m) at h)
-      | else-least-d-via-else-least-d w ↦
-          let g : le_z (to_z w64 (of_z w64 (row c.in_ok-tag.tag).0)) (to_z w64 (of_z w64 c.args.d)) ≡ false = w.if-least-d.false in
-          row_below c.args.t c.args.d c.in_ok-tag.tag _ d p c.if-tag-ge-TAGS.false (rw (to_z-of_z w64 _ l, to_z-of_z w64 _ d) at g)
+    let l : FitsSigned w64 (least c.in_ok-tag.tag) = search rules in
+    elim c.else-tag-d.branch [
+      | else-tag-d-via-then-tag-d+else-d-tag w ↦
+          let m : FitsSigned w64 (most c.in_ok-tag.tag) = search rules in
+          let g : le_z (to_z w64 (of_z w64 (least c.in_ok-tag.tag))) (to_z w64 (of_z w64 c.args.d)) ≡ true = w.if-tag-d.true in
+          let h : le_z (to_z w64 (of_z w64 c.args.d)) (to_z w64 (of_z w64 (most c.in_ok-tag.tag))) ≡ false = w.if-d-tag.false in
+          above_most c.args.t c.args.d c.in_ok-tag.tag d p c.if-tag-ge-TAGS.false (rw (to_z-of_z w64 _ l, to_z-of_z w64 _ d) at g) (rw (to_z-of_z w64 _ d, to_z-of_z w64 _ m) at h)
+      | else-tag-d-via-else-tag-d w ↦
+          let g : le_z (to_z w64 (of_z w64 (least c.in_ok-tag.tag))) (to_z w64 (of_z w64 c.args.d)) ≡ false = w.if-tag-d.false in
+          below_least c.args.t c.args.d c.in_ok-tag.tag d p c.if-tag-ge-TAGS.false (rw (to_z-of_z w64 _ l, to_z-of_z w64 _ d) at g)
     ]
