@@ -8,6 +8,7 @@ use Rattle.term.proofs.MetLaw.{none_yet, none_joined, none_here}
 use Rattle.term.specs.TermEnd.{GroundTermsAre}
 use Rattle.term.specs.declared.ground.Ground.{Ground}
 use Rattle.term.specs.declared.ground.Ground.TheVariants as G
+use Rattle.std.specs.Prelude.{Some}
 use Rattle.table.specs.Node.{NodeAt}
 use Rattle.table.specs.Reach.{Met}
 use Rattle.table.specs.declared.node.Node.{Node}
@@ -38,7 +39,7 @@ module _ (ws : List ℤ) where
   met_ground at k g e false q = record { none = λ p. g.none e q }
 
 -- a node that is no dictionary, alone and in front of others
-module _ {ws : List ℤ} {i : ℕ} {n : Node} (h : NodeAt ws i n) (f : MayHave n → ⊥) where
+module _ {ws : List ℤ} {i : ℕ} {n : Node} (h : NodeAt ws i n) (f : MayHave (Some n) → ⊥) where
   pub met_node : Met ws i (i + 2) false
   met_node = record { none = λ e. none_here ws i (λ q. f (node_other h q)) }
 
