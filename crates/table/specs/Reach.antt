@@ -4,7 +4,7 @@ use Rattle.std.proofs.Math.Option.{none}
 use Rattle.term.specs.TermEnd.{NoneMet}
 use Rattle.table.specs.Level.{Level, Left, Right, Expression, Ground}
 use Rattle.table.specs.declared.expression.Turn.{Turn}
-use Rattle.table.specs.declared.expression.Ended.{Ended}
+use Rattle.term.specs.declared.ground.Walked.{Walked}
 use Rattle.table.specs.Walk.{walk}
 
 -- The walk over k terms from a place comes to another place, where m are still to come.
@@ -55,10 +55,10 @@ pub record Ends (mixed : Bool) (ws : List ℤ) (l : Level) (at k : ℕ) (seen se
   pub order : Met ws at e met
   pub unmet : mixed ≡ false → met ≡ false
 
-abbrev pub EndIs : Bool → List ℤ → Level → ℕ → ℕ → List Bool → List Bool → Option Ended → Type 0
+abbrev pub EndIs : Bool → List ℤ → Level → ℕ → ℕ → List Bool → List Bool → Option Walked → Type 0
 EndIs mixed ws l at k seen seen' (Some t) = Ends mixed ws l at k seen seen' t.end t.met
 EndIs mixed ws l at k seen seen' None = Missed mixed ws l at k seen seen'
 
 -- What is answered of ground terms, whatever is flagged.
-pub record GroundEndIs (mixed : Bool) (ws : List ℤ) (at k : ℕ) (r : Option Ended) : Type 0 where
+pub record GroundEndIs (mixed : Bool) (ws : List ℤ) (at k : ℕ) (r : Option Walked) : Type 0 where
   pub is : (seen : List Bool) → EndIs mixed ws Ground at k seen seen r

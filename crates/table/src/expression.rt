@@ -1,12 +1,11 @@
 // Expressions: variables that were flagged, calls but no updates, and symbols and dictionaries over ground terms.
 ghost use Rattle.std.specs.Prelude.{◌≡◌, ◌+◌, ◌≤◌, length};
 ghost use Rattle.minuska.specs.Computed.Read.{max_children};
-ghost use Rattle.term.specs.Datum.{ground_ranges};
 ghost use Rattle.table.specs.Level.{Expression};
 ghost use Rattle.table.specs.Reach.{EndIs, GroundEndIs, TurnIs};
 
 use crate::node::{Node, node_at};
-use term::ground::Ranges;
+use term::ground::{Walked, ground_terms, tagged_terms};
 use term::{UPDATE, VARIABLES};
 
 // What one turn of a walk over terms comes to: the place behind what it took, how many more terms of its level are to come, and whether it met a dictionary.
@@ -17,36 +16,19 @@ pub struct Turn {
     pub met: bool,
 }
 
-// The place behind some terms, and whether a dictionary is among them.
-#[derive(Clone, Copy)]
-pub struct Ended {
-    pub end: usize,
-    pub met: bool,
-}
-
-// The place behind so many ground terms that start at a place.
-pub fn ground_end<const MIXED: bool>(
-    table: &[i64],
-    at: usize,
-    count: usize,
-    ranges: &Ranges,
-) -> Option<Ended>
-    requires { (at ≤ length table.now) × (count ≤ max_children) × (ranges.now ≡ ground_ranges) }
+// What the walk over so many ground terms that start at a place has taken.
+pub fn ground_end<const MIXED: bool>(table: &[i64], at: usize, count: usize) -> Option<Walked>
+    requires { (at ≤ length table.now) × (count ≤ max_children) }
     ensures { GroundEndIs MIXED table.now at count result }
 {
     if MIXED {
-        let term::ground::Ground::At(end, met) = term::ground::ground_terms(
-            table, at, count, ranges,
-        ) else {
-            return None;
-        };
-        return Some(Ended { end, met });
+        return ground_terms(table, at, count);
     }
-    let reached = term::ground::tagged_terms(table, at, count, ranges);
+    let reached = tagged_terms(table, at, count);
     if reached.left != 0 {
         return None;
     }
-    Some(Ended {
+    Some(Walked {
         end: reached.at,
         met: false,
     })
@@ -57,14 +39,13 @@ fn expression_turn<const MIXED: bool>(
     table: &[i64],
     i: usize,
     seen: &[bool; VARIABLES],
-    ranges: &Ranges,
 ) -> Option<Turn>
-    requires { (i ≤ length table.now) × (ranges.now ≡ ground_ranges) }
+    requires { i ≤ length table.now }
     ensures { TurnIs MIXED table.now Expression i seen.now seen.now result }
 {
-    match node_at::<MIXED>(table, i, ranges)? {
+    match node_at::<MIXED>(table, i)? {
         Node::Plain { children } => {
-            let below = ground_end::<MIXED>(table, i + 2, children, ranges)?;
+            let below = ground_end::<MIXED>(table, i + 2, children)?;
             Some(Turn {
                 end: below.end,
                 more: 0,
@@ -72,7 +53,7 @@ fn expression_turn<const MIXED: bool>(
             })
         }
         Node::Literal { children } => {
-            let below = ground_end::<MIXED>(table, i + 2, children, ranges)?;
+            let below = ground_end::<MIXED>(table, i + 2, children)?;
             Some(Turn {
                 end: below.end,
                 more: 0,
@@ -104,19 +85,18 @@ pub fn expressions_end<const MIXED: bool>(
     at: usize,
     count: usize,
     seen: &[bool; VARIABLES],
-    ranges: &Ranges,
-) -> Option<Ended>
-    requires { (at ≤ length table.now) × (count ≤ max_children) × (ranges.now ≡ ground_ranges) }
+) -> Option<Walked>
+    requires { (at ≤ length table.now) × (count ≤ max_children) }
     ensures { EndIs MIXED table.now Expression at count seen.now seen.now result }
 {
     let mut i = at;
     let mut k = count;
     let mut met = false;
     while 0 < k {
-        let turn = expression_turn::<MIXED>(table, i, seen, ranges)?;
+        let turn = expression_turn::<MIXED>(table, i, seen)?;
         i = turn.end;
         k = k - 1 + turn.more;
         met = met | turn.met;
     }
-    Some(Ended { end: i, met })
+    Some(Walked { end: i, met })
 }

@@ -6,19 +6,13 @@ ghost use Rattle.table.specs.Index.{row_of, RowFits, RowIs};
 use crate::key::key;
 use crate::rule::Parts;
 use minuska::{Index, Row};
+use term::Span;
 
 // The word at which the first rule stands, behind the rule count: places are counted from there.
 pub const FIRST_RULE: usize = 1;
 
 // A rule's header words, in front of its left: its action and its condition count.
 pub const HEADER: usize = 2;
-
-// A part of a rule: the words of a table from one place up to another.
-#[derive(Clone, Copy)]
-pub struct Span {
-    pub from: usize,
-    pub to: usize,
-}
 
 // The sizes of a right: how many of its nodes give one node each, and how many are variables.
 #[derive(Clone, Copy)]
@@ -52,7 +46,7 @@ pub fn row_from(table: &[i64], at: usize, parts: Parts) -> Row
         right: placed(parts.right),
         conditions: placed(parts.conditions),
         end: placed(parts.end),
-        key: key(term::word(table, left), term::word(table, left + 1)),
+        key: key(table[left], table[left + 1]),
         action: parts.action as u16,
         fixed: parts.fixed as u16,
         leaves: parts.leaves as u16,

@@ -28,7 +28,7 @@ pub fn root(configuration: &[i64]) -> usize
     requires { Accepted configuration.now }
     ensures { RootKeyIs configuration.now result }
 {
-    usize::from(key(term::word(configuration, 0), term::word(configuration, 1)))
+    usize::from(key(configuration[0], configuration[1]))
 }
 
 // The first position from one on, up to another, whose rule's left may match a configuration whose root has that key: the left's is a variable, or has it too.

@@ -32,8 +32,7 @@ pub fn check_table(table: &[i64]) -> Result<(), Refusal>
 pub fn index_table(table: &[i64], index: &mut Index) -> Result<(), Refusal>
     ensures { IndexTableContract table.now index.old index.new result }
 {
-    let ranges = term::ground::RANGES;
-    fill(table, index, &ranges)
+    fill(table, index)
 }
 
 // How many rules a checked table has.
@@ -41,7 +40,7 @@ pub fn rule_count(table: &[i64], index: &Index) -> usize
     requires { Indexed table.now index.now }
     ensures { RuleCountIs table.now result }
 {
-    term::word(table, 0) as usize
+    table[0] as usize
 }
 
 // The action of a checked table's rule; 0 of a number that names none.

@@ -2,12 +2,11 @@
 ghost use Rattle.std.specs.Prelude.{◌≡◌, Option, Bool, pos, ◌≤◌, ◌<◌, length};
 ghost use Rattle.minuska.specs.Computed.Read.{variable_tag, call_tag, dictionary_tag};
 ghost use Rattle.minuska.specs.Word.{variables};
-ghost use Rattle.term.specs.Datum.{ground_ranges};
 ghost use Rattle.table.specs.Node.{known_functions, node_of, side_level, Known, FoundAt, TakesVariable};
 
 use crate::number::number_below;
 use term::VARIABLES;
-use term::ground::{Ranges, in_range};
+use term::ground::in_range;
 
 // The functions whose codes are below have one node for a value, and take no dictionary.
 const PLAIN_FUNCTIONS: usize = 15;
@@ -64,8 +63,7 @@ fn dictionary(d: i64) -> Option<Node>
 
 // What two words are. Unless `MIXED`, dictionaries and calls of functions on them are not known.
 #[tactic(auto, using(crate::proofs::NodeLaw::known))]
-fn classify<const MIXED: bool>(ranges: &Ranges, t: i64, d: i64) -> Option<Node>
-    requires { ranges.now ≡ ground_ranges }
+fn classify<const MIXED: bool>(t: i64, d: i64) -> Option<Node>
     ensures { Known MIXED t d result }
 {
     if MIXED && t == term::DICTIONARY {
@@ -77,7 +75,7 @@ fn classify<const MIXED: bool>(ranges: &Ranges, t: i64, d: i64) -> Option<Node>
     if t == term::CALL {
         return call::<MIXED>(d);
     }
-    if !in_range(ranges, t, d) {
+    if !in_range(t, d) {
         return None;
     }
     let children = term::tag_children(t);
@@ -85,14 +83,14 @@ fn classify<const MIXED: bool>(ranges: &Ranges, t: i64, d: i64) -> Option<Node>
 }
 
 // The node at a place; none where two words are not left.
-pub fn node_at<const MIXED: bool>(table: &[i64], i: usize, ranges: &Ranges) -> Option<Node>
-    requires { (i ≤ length table.now) × (ranges.now ≡ ground_ranges) }
+pub fn node_at<const MIXED: bool>(table: &[i64], i: usize) -> Option<Node>
+    requires { i ≤ length table.now }
     ensures { FoundAt MIXED table.now i result }
 {
     if table.len() - i < 2 {
         return None;
     }
-    classify::<MIXED>(ranges, term::word(table, i), term::word(table, i + 1))
+    classify::<MIXED>(table[i], table[i + 1])
 }
 
 // A left's variable is flagged; a right's must have been.

@@ -1,6 +1,5 @@
 // One part of a rule. Most have no dictionary, and are found by a walk that knows none; where it finds nothing, which says nothing, the other walk looks.
 ghost use Rattle.std.specs.Prelude.{◌≡◌, true};
-ghost use Rattle.term.specs.Datum.{ground_ranges};
 ghost use Rattle.table.specs.Level.{Expression};
 ghost use Rattle.table.specs.Node.{side_level, unseen};
 ghost use Rattle.table.specs.Number.{answered};
@@ -9,41 +8,38 @@ ghost use Rattle.table.specs.Walk.{part_end};
 
 use crate::walk::{Sized, expression, side};
 use term::VARIABLES;
-use term::ground::Ranges;
+
+// The two walks: one that knows no dictionary, and one that does.
+const PLAIN: bool = false;
+
+const MIXED: bool = true;
 
 // The place behind the left or the right that starts at a place, and its sizes. The first walk may have flagged some of a left's variables.
 pub fn side_part<const LEFT: bool>(
     table: &[i64],
     at: usize,
     seen: &mut [bool; VARIABLES],
-    ranges: &Ranges,
 ) -> Option<Sized>
-    requires { (LEFT ≡ true → seen.old ≡ unseen) × (ranges.now ≡ ground_ranges) }
+    requires { LEFT ≡ true → seen.old ≡ unseen }
     ensures { SidePartContract table.now at (side_level LEFT) seen.old seen.new result }
 {
-    let plain = side::<LEFT, false>(table, at, seen, ranges);
+    let plain = side::<LEFT, PLAIN>(table, at, seen);
     if plain.is_some() {
         return plain;
     }
     if LEFT {
         *seen = [false; VARIABLES];
     }
-    side::<LEFT, true>(table, at, seen, ranges)
+    side::<LEFT, MIXED>(table, at, seen)
 }
 
 // The place behind the expression that starts at a place.
-pub fn expression_part(
-    table: &[i64],
-    at: usize,
-    seen: &[bool; VARIABLES],
-    ranges: &Ranges,
-) -> Option<usize>
-    requires { ranges.now ≡ ground_ranges }
+pub fn expression_part(table: &[i64], at: usize, seen: &[bool; VARIABLES]) -> Option<usize>
     ensures { result ≡ answered (part_end table.now at Expression seen.now) }
 {
-    let plain = expression::<false>(table, at, seen, ranges);
+    let plain = expression::<PLAIN>(table, at, seen);
     if plain.is_some() {
         return plain;
     }
-    expression::<true>(table, at, seen, ranges)
+    expression::<MIXED>(table, at, seen)
 }

@@ -1,6 +1,5 @@
 // A rule's left and right: symbols over symbols, dictionaries, variables and, in a right, calls.
 ghost use Rattle.std.specs.Prelude.{◌≡◌, ◌≤◌, length};
-ghost use Rattle.term.specs.Datum.{ground_ranges};
 ghost use Rattle.minuska.specs.Bridge.Walk.{fixed_call, leaves_call};
 ghost use Rattle.table.specs.Level.{Right};
 ghost use Rattle.table.specs.Node.{side_level, KnownAt};
@@ -9,7 +8,6 @@ ghost use Rattle.table.specs.declared.node.Node.TheVariants as N;
 
 use crate::expression::{expressions_end, ground_end};
 use crate::node::{Node, node_at, takes_variable};
-use term::ground::Ranges;
 use term::{LOOKUP, UPDATE, VARIABLES};
 
 // What one turn of a side's walk comes to: the place behind what it took, how many more terms are to come, the sizes of what it took, and whether it met a dictionary.
@@ -59,12 +57,11 @@ fn call_turn<const MIXED: bool>(
     children: usize,
     code: usize,
     seen: &[bool; VARIABLES],
-    ranges: &Ranges,
 ) -> Option<SideTurn>
-    requires { KnownAt MIXED table.now i (N.Call children code) × (ranges.now ≡ ground_ranges) }
+    requires { KnownAt MIXED table.now i (N.Call children code) }
     ensures { SideTurnIs MIXED table.now Right i seen.now seen.now result }
 {
-    let below = expressions_end::<MIXED>(table, i + 2, children, seen, ranges)?;
+    let below = expressions_end::<MIXED>(table, i + 2, children, seen)?;
     Some(SideTurn {
         end: below.end,
         more: 0,
@@ -75,16 +72,11 @@ fn call_turn<const MIXED: bool>(
 }
 
 // A dictionary with all that is below it.
-fn literal_turn<const MIXED: bool>(
-    table: &[i64],
-    i: usize,
-    children: usize,
-    ranges: &Ranges,
-) -> Option<SideTurn>
-    requires { KnownAt MIXED table.now i (N.Literal children) × (ranges.now ≡ ground_ranges) }
+fn literal_turn<const MIXED: bool>(table: &[i64], i: usize, children: usize) -> Option<SideTurn>
+    requires { KnownAt MIXED table.now i (N.Literal children) }
     ensures { LiteralTurnIs MIXED table.now i result }
 {
-    let below = ground_end::<MIXED>(table, i + 2, children, ranges)?;
+    let below = ground_end::<MIXED>(table, i + 2, children)?;
     Some(SideTurn {
         end: below.end,
         more: 0,
@@ -99,12 +91,11 @@ fn side_turn<const LEFT: bool, const MIXED: bool>(
     table: &[i64],
     i: usize,
     seen: &mut [bool; VARIABLES],
-    ranges: &Ranges,
 ) -> Option<SideTurn>
-    requires { (i ≤ length table.now) × (ranges.now ≡ ground_ranges) }
+    requires { i ≤ length table.now }
     ensures { SideTurnIs MIXED table.now (side_level LEFT) i seen.old seen.new result }
 {
-    match node_at::<MIXED>(table, i, ranges)? {
+    match node_at::<MIXED>(table, i)? {
         Node::Plain { children } => Some(SideTurn {
             end: i + 2,
             more: children,
@@ -112,12 +103,12 @@ fn side_turn<const LEFT: bool, const MIXED: bool>(
             leaves: 0,
             met: false,
         }),
-        Node::Literal { children } => literal_turn::<MIXED>(table, i, children, ranges),
+        Node::Literal { children } => literal_turn::<MIXED>(table, i, children),
         Node::Call { children, code } => {
             if LEFT {
                 return None;
             }
-            call_turn::<MIXED>(table, i, children, code, seen, ranges)
+            call_turn::<MIXED>(table, i, children, code, seen)
         }
         Node::Variable { number } => {
             if !takes_variable::<LEFT>(number, seen) {
@@ -139,9 +130,8 @@ pub fn side_end<const LEFT: bool, const MIXED: bool>(
     table: &[i64],
     at: usize,
     seen: &mut [bool; VARIABLES],
-    ranges: &Ranges,
 ) -> Option<SideEnd>
-    requires { (at ≤ length table.now) × (ranges.now ≡ ground_ranges) }
+    requires { at ≤ length table.now }
     ensures { SideIs MIXED table.now (side_level LEFT) at seen.old seen.new result }
 {
     let mut i = at;
@@ -150,7 +140,7 @@ pub fn side_end<const LEFT: bool, const MIXED: bool>(
     let mut leaves: usize = 0;
     let mut met = false;
     while 0 < k {
-        let turn = side_turn::<LEFT, MIXED>(table, i, seen, ranges)?;
+        let turn = side_turn::<LEFT, MIXED>(table, i, seen)?;
         i = turn.end;
         fixed += turn.fixed;
         leaves += turn.leaves;

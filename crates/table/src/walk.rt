@@ -1,6 +1,5 @@
 // One term of a rule, if it has at most 512 nodes and its dictionaries are in order.
 ghost use Rattle.std.specs.Prelude.{◌≡◌};
-ghost use Rattle.term.specs.Datum.{ground_ranges};
 ghost use Rattle.table.specs.Node.{side_level};
 ghost use Rattle.table.specs.Part.{Ending, TermIs, ExpressionIs, SideFound};
 
@@ -8,7 +7,6 @@ use crate::expression::expressions_end;
 use crate::side::side_end;
 use minuska::limits::MAX_TERM_WORDS;
 use term::VARIABLES;
-use term::ground::Ranges;
 use term::order::in_order;
 
 // The place behind a side, and its sizes: how many nodes it gives for certain, and how many terms of a match.
@@ -35,15 +33,13 @@ pub fn expression<const MIXED: bool>(
     table: &[i64],
     at: usize,
     seen: &[bool; VARIABLES],
-    ranges: &Ranges,
 ) -> Option<usize>
-    requires { ranges.now ≡ ground_ranges }
     ensures { ExpressionIs MIXED table.now at seen.now result }
 {
     if table.len() < at {
         return None;
     }
-    let walked = expressions_end::<MIXED>(table, at, 1, seen, ranges)?;
+    let walked = expressions_end::<MIXED>(table, at, 1, seen)?;
     if !is_term(table, at, walked.end, walked.met) {
         return None;
     }
@@ -55,15 +51,13 @@ pub fn side<const LEFT: bool, const MIXED: bool>(
     table: &[i64],
     at: usize,
     seen: &mut [bool; VARIABLES],
-    ranges: &Ranges,
 ) -> Option<Sized>
-    requires { ranges.now ≡ ground_ranges }
     ensures { SideFound MIXED table.now at (side_level LEFT) seen.old seen.new result }
 {
     if table.len() < at {
         return None;
     }
-    let walked = side_end::<LEFT, MIXED>(table, at, seen, ranges)?;
+    let walked = side_end::<LEFT, MIXED>(table, at, seen)?;
     if !is_term(table, at, walked.end, walked.met) {
         return None;
     }

@@ -10,7 +10,7 @@ returns-in_err-children g c = rw c.from_residual.ensures (none_missed c.in_err-c
 pub ground_end-requires : goal.ground_end-requires
 ground_end-requires g c =
     let h = rw c.in-Plain.is at c.in_ok-children.ensures in
-    (h.node.room, plain_few h c.args.seen.now, c.requires.1)
+    (h.node.room, plain_few h c.args.seen.now)
 
 pub returns-in_err-below-in-Plain : goal.returns-in_err-below-in-Plain
 returns-in_err-below-in-Plain g c =
@@ -25,7 +25,7 @@ returns-in_ok-below-in-Plain g c =
 pub ground_end-requires-in-Literal : goal.ground_end-requires-in-Literal
 ground_end-requires-in-Literal g c =
     let h = rw c.in-Literal.is at c.in_ok-children.ensures in
-    (h.node.room, literal_few h, c.requires.1)
+    (h.node.room, literal_few h)
 
 pub returns-in_err-below-in-Literal : goal.returns-in_err-below-in-Literal
 returns-in_err-below-in-Literal g c =

@@ -7,7 +7,7 @@ pub loop-k-init : goal.loop-k-init
 loop-k-init g c = loop_start _ _ _ _ _ _ c.requires.0 c.requires.1
 
 pub expression_turn-requires : goal.expression_turn-requires
-expression_turn-requires g c = (c.loop-k.invariant.reaches.inside, c.requires.2)
+expression_turn-requires g c = c.loop-k.invariant.reaches.inside
 
 pub returns-in_err-turn : goal.returns-in_err-turn
 returns-in_err-turn g c = rw c.from_residual.ensures (loop_missed c.loop-k.invariant c.loop-k-test.true _ c.in_err-turn.ensures)

@@ -4,10 +4,10 @@ use Rattle.table.proofs.LoopLaw.{loop_few, loop_nearer, loop_missed, side_start,
 use Rattle.table.proofs.side.side_end.Goals as goal
 
 pub loop-k-init : goal.loop-k-init
-loop-k-init g c = side_start _ _ _ _ _ c.requires.0
+loop-k-init g c = side_start _ _ _ _ _ c.requires
 
 pub side_turn-requires : goal.side_turn-requires
-side_turn-requires g c = (c.loop-k.invariant.walked.reaches.inside, c.requires.1)
+side_turn-requires g c = c.loop-k.invariant.walked.reaches.inside
 
 pub returns-in_err-turn : goal.returns-in_err-turn
 returns-in_err-turn g c = rw c.from_residual.ensures (loop_missed c.loop-k.invariant.walked c.loop-k-test.true _ c.in_err-turn.ensures)

@@ -11,7 +11,7 @@ pub returns-in-Plain : goal.returns-in-Plain
 returns-in-Plain g c = let h = rw c.in-Plain.is at c.in_ok-children.ensures in side_plain h _ _
 
 pub literal_turn-requires : goal.literal_turn-requires
-literal_turn-requires g c = (rw c.in-Literal.is at c.in_ok-children.ensures, c.requires.1)
+literal_turn-requires g c = rw c.in-Literal.is at c.in_ok-children.ensures
 
 pub returns-in-Literal : goal.returns-in-Literal
 returns-in-Literal g c = c.literal_turn.ensures.at _ _
@@ -20,7 +20,7 @@ pub returns-then-this-ne0 : goal.returns-then-this-ne0
 returns-then-this-ne0 g c = let h = rw c.in-Call.is at c.in_ok-children.ensures in call_in_left (search rules) h _
 
 pub call_turn-requires : goal.call_turn-requires
-call_turn-requires g c = (rw c.in-Call.is at c.in_ok-children.ensures, c.requires.1)
+call_turn-requires g c = rw c.in-Call.is at c.in_ok-children.ensures
 
 pub returns-else-this-ne0 : goal.returns-else-this-ne0
 returns-else-this-ne0 g c = call_in_right _ _ _ _ _ _ (search rules) c.call_turn.ensures
