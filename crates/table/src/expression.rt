@@ -35,6 +35,7 @@ pub fn ground_end<const MIXED: bool>(table: &[i64], at: usize, count: usize) -> 
 }
 
 // One expression's first node, with the ground terms below it. A call's arguments are expressions still to come.
+#[inline(always)]
 fn expression_turn<const MIXED: bool>(
     table: &[i64],
     i: usize,
@@ -80,6 +81,7 @@ fn expression_turn<const MIXED: bool>(
 }
 
 // The place behind so many expressions that start at a place, and whether a dictionary is among them.
+#[inline(always)]
 pub fn expressions_end<const MIXED: bool>(
     table: &[i64],
     at: usize,

@@ -7,6 +7,9 @@ ghost use Rattle.table.specs.Number.{answered};
 pub fn number_below(bound: usize, word: i64) -> Option<usize>
     ensures { result ≡ answered (number_below bound word) }
 {
-    let number = usize::try_from(word).ok()?;
-    if number < bound { Some(number) } else { None }
+    // (b) not `usize::try_from`: a check of a table takes 3 % more instructions
+    if word < 0 || bound <= word as usize {
+        return None;
+    }
+    Some(word as usize)
 }
