@@ -8,3 +8,4 @@ pub mod Size
 pub mod Rule
 pub mod Part
 pub mod Index
+pub mod Checked

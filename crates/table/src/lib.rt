@@ -1,6 +1,7 @@
 // The table's check, and the index: where the parts of each rule stand.
 #![tactic(auto)]
 
+pub mod checked;
 mod expression;
 mod fill;
 pub mod index;
