@@ -6,5 +6,6 @@ pub mod Walk
 pub mod Reach
 pub mod Size
 pub mod Rule
-pub mod Plain
+pub mod Part
 pub mod Index
+pub mod Checked
