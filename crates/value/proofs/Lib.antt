@@ -10,10 +10,11 @@ pub mod ArityLaw
 pub mod ExpressionLaw
 pub mod GivenLaw
 pub mod MeantLaw
-pub mod FindLaw
+pub mod EntriesLaw
+pub mod SearchLaw
 pub mod LookupLaw
-pub mod SlotLaw
 pub mod UpdateLaw
 pub mod WritingLaw
 pub mod ConditionLaw
 pub mod ShortLaw
+pub mod CallLaw
