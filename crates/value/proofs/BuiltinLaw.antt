@@ -10,15 +10,14 @@ use lib.IntN.{ℤ, pos, negsuc, ◌*ℤ◌}
 use lib.Signed.{mag, lt_z}
 use borrow.Author.Tests.{ltb-true, ltb-false, le-leb, lt-leb, lt-ltb, ne_eqb}
 use mir.Syntax.{w64}
-use mir.Val.{SFits, to_z, of_z}
-use mir.Facts.{to_z-of_z}
-use Rattle.minuska.specs.Term.{leaf, truth, Label, error, whole, symbol, dictionary, Term, as_symbol, as_truth, as_whole}
+use mir.Val.{SFits, of_z}
+use Rattle.minuska.specs.Term.{leaf, Label, error, whole, symbol, dictionary, Term, as_symbol, as_truth, as_whole}
 use Rattle.minuska.specs.Basics.{◌>>=◌, present, provided, same_whole}
 use Rattle.minuska.specs.Nearest.{nearest}
 use Rattle.minuska.specs.Function.{wrong_kind, or_wrong_kind, whole_term, share_range, share_of, Function, functions, no_function}
 use Rattle.value.specs.Builtin.{unsigned, label_at, label_of, root_of, leaves, applied}
 use Rattle.value.specs.declared.builtin.Root.{Root}
-use Rattle.value.proofs.Shift.{eq_bits, word_is, word_not}
+use Rattle.value.proofs.SignedLaw.{eq_bits, word_is, word_not}
 
 -- ---- the kinds that functions ask for: the tag, a label read as one of the kind, what a datum says, and that the tag decides
 unsigned_is : (z : ℤ) → unsigned z ≡ of_z w64 z

@@ -1,21 +1,20 @@
 -- A call: its code, and its arguments one after the other, of whatever call stands at a place.
 use mathlib.Core.Path.{◌≡◌, sym, ap, ◌∙◌}
 use mathlib.Core.List.{List}
-use Prim.Native.Nat.{ℕ, ◌+◌, ◌≤◌, ◌<◌, ◌^◌}
+use Prim.Native.Nat.{ℕ, ◌+◌, ◌≤◌}
 use native.Mathlib.Omega.{arith}
 use lib.Dec.{ltb}
 use lib.IntN.{ℤ, pos, nat_abs}
 use lib.ListN.{length, get_or}
 use mir.Syntax.{w64}
 use mir.Val.{to_z, of_z}
-use Rattle.minuska.specs.Term.{Forest, nil, Term, single, term_count}
+use Rattle.minuska.specs.Term.{nil, Term, single, term_count}
 use Rattle.minuska.specs.Word.{encode}
-use Rattle.minuska.specs.Function.{functions}
 use Rattle.minuska.specs.Satisfaction.{Valuation}
 use Rattle.term.specs.TermEnd.{arity_of}
 use Rattle.value.specs.Evaluate.{HasValue, HaveValues, ArgumentsContract, FirstMeant, rest_of}
 use Rattle.value.specs.declared.Evaluated.{Evaluated}
-use Rattle.value.proofs.Shift.{abs_back}
+use Rattle.value.proofs.SignedLaw.{abs_back}
 use Rattle.value.proofs.ArityLaw.{arity_is, arity_few}
 use Rattle.value.proofs.ExpressionLaw.{head_words, CallHere, is_call}
 use Rattle.value.proofs.MeantLaw.{rest_behind, one_fewer, three_long}
@@ -35,9 +34,6 @@ module _ (table config : List ℤ) (starts ends : List ℕ) (at : ℕ) (ρ : Val
   pub code_is : read_at table (at + 1) ≡ the_call.code
   code_is = let k = the_call in let h = k.small in abs_back _ k.code k.datum (omega arith)
 
-  pub code_small : read_at table (at + 1) < length functions
-  code_small = rw code_is the_call.small
-
   module _ (count : ℕ) (c : count ≡ arity_of (read_at table (at + 1))) where
     many : term_count e.children ≡ count
     many = the_call.many ∙ (sym (arity_is the_call.code) ∙ sym (c ∙ ap arity_of code_is))
@@ -45,10 +41,10 @@ module _ (table config : List ℤ) (starts ends : List ℕ) (at : ℕ) (ρ : Val
     pub first_wanted : ltb 0 count ≡ ltb 0 (term_count e.children)
     first_wanted = ap (ltb 0) (sym many)
 
-    second_wanted : ltb 1 count ≡ ltb 0 (term_count (rest_of e.children))
+    pub second_wanted : ltb 1 count ≡ ltb 0 (term_count (rest_of e.children))
     second_wanted = ap (ltb 1) (sym many) ∙ one_fewer e.children 0
 
-    third_wanted : ltb 2 count ≡ ltb 0 (term_count (rest_of (rest_of e.children)))
+    pub third_wanted : ltb 2 count ≡ ltb 0 (term_count (rest_of (rest_of e.children)))
     third_wanted = ap (ltb 2) (sym many) ∙ (one_fewer e.children 1 ∙ one_fewer (rest_of e.children) 0)
 
     module _ (first : Evaluated) (f : ArgumentsContract table config starts ends (at + 2) (ltb 0 count) first) where
@@ -58,18 +54,12 @@ module _ (table config : List ℤ) (starts ends : List ℕ) (at : ℕ) (ρ : Val
       pub behind_first : HaveValues table config starts ends first.next ρ (rest_of e.children) (rest_of the_call.terms)
       behind_first = rest_behind table config starts ends (at + 2) ρ e.children the_call.terms the_call.have first first_is
 
-      pub second_is_wanted : ltb 1 count ≡ ltb 0 (term_count (rest_of e.children))
-      second_is_wanted = second_wanted
-
       module _ (second : Evaluated) (s : ArgumentsContract table config starts ends first.next (ltb 1 count) second) where
         pub second_is : FirstMeant table config starts ends first.next (rest_of e.children) (rest_of the_call.terms) second
         second_is = s.meant ρ (rest_of e.children) (rest_of the_call.terms) behind_first second_wanted
 
         pub behind_second : HaveValues table config starts ends second.next ρ (rest_of (rest_of e.children)) (rest_of (rest_of the_call.terms))
         behind_second = rest_behind table config starts ends first.next ρ (rest_of e.children) (rest_of the_call.terms) behind_first second second_is
-
-        pub third_is_wanted : ltb 2 count ≡ ltb 0 (term_count (rest_of (rest_of e.children)))
-        third_is_wanted = third_wanted
 
         module _ (third : Evaluated) (t : ArgumentsContract table config starts ends second.next (ltb 2 count) third) where
           pub third_is : FirstMeant table config starts ends second.next (rest_of (rest_of e.children)) (rest_of (rest_of the_call.terms)) third

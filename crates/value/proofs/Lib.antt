@@ -1,7 +1,5 @@
-pub mod Shift
-pub mod Checked
+pub mod SignedLaw
 pub mod BuiltinLaw
-pub mod ShareLaw
 pub mod InterpretLaw
 pub mod RootLaw
 pub mod WordsLaw

@@ -31,7 +31,7 @@ use Rattle.value.specs.declared.Value.TheVariants.{Table, Configuration, Compute
 use Rattle.value.specs.declared.builtin.Root.{Root}
 use mir.Syntax.{w64}
 use mir.Val.{to_z, of_z}
-use Rattle.value.proofs.Shift.{abs_back}
+use Rattle.value.proofs.SignedLaw.{abs_back}
 use Rattle.value.proofs.BuiltinLaw.{whole_seen}
 use Rattle.value.proofs.RootLaw.{label_is}
 use Rattle.value.proofs.EntriesLaw.{no_dictionary, DictionaryOf, dictionary_of}
@@ -89,9 +89,6 @@ pub record Counted (ws : List ℤ) (at : ℕ) : Type 0 where
   pub back : nat_abs (to_z w64 (of_z w64 (get_or ws (at + 1) (pos 0)))) ≡ n
 
 module _ {ws : List ℤ} {at : ℕ} where
-  pub term_room : TermIn ws at → at + 2 ≤ length ws
-  term_room h = (here_words ws at h.term h.here).room
-
   pub find_other : (key : ℤ) → (get_or ws at (pos 0) ≡ pos 5 → ⊥) → FoundIs ws at key S.None
   find_other key f = record { is = λ t h. ap (λ (o : Option Entries). o >>= find key) (no_dictionary t.label t.children (λ e. f ((here_words ws at t h).first ∙ e))) }
 

@@ -1,8 +1,8 @@
 -- The search for a key among entries that stand one behind the other: how far it has come, of whatever entries stand there; what is found and what is put, from it.
 use mathlib.Core.Path.{◌≡◌, refl, sym, ◌∙◌, ap, ap₂, subst, subst⁻¹}
 use mathlib.Core.Bool.{Bool, true, false, cond}
-use mathlib.Core.Option.{Option, none, some}
-use mathlib.Core.List.{List, [], ◌∷◌, ◌++◌, append-nil, append_assoc}
+use mathlib.Core.Option.{none, some}
+use mathlib.Core.List.{List, [], ◌∷◌, ◌++◌, append_assoc}
 use Prim.Native.Nat.{ℕ, suc, ◌+◌, ◌-◌, ◌≤◌, ◌<◌}
 use native.Mathlib.Omega.{arith}
 use lib.Dec.{T}
@@ -13,7 +13,7 @@ use lib.Signed.{lt_z}
 use borrow.Author.Tests.{le-ltb}
 use Rattle.std.specs.Prelude as S
 use Rattle.minuska.specs.Basics.{same_whole}
-use Rattle.minuska.specs.Term.{Label, whole, Forest, nil, node, Term, cons, single, ground_at, role, is_ground}
+use Rattle.minuska.specs.Term.{Label, whole, Forest, nil, Term, cons, single, ground_at, role, is_ground}
 use Rattle.minuska.specs.Dictionary.{Entry, Entries, find, put, below, rising, entry_terms}
 use Rattle.minuska.specs.Word.{ok, encode}
 use Rattle.minuska.specs.Bridge.Place.{Stands, GroundAt, GroundEnds}

@@ -17,7 +17,7 @@ use Rattle.minuska.specs.Bridge.Walk.{looking}
 use Rattle.value.specs.Evaluate.{HasValue, first_of, rest_of}
 use Rattle.value.specs.Short.{Short}
 use Rattle.term.specs.declared.Span.{Span}
-use Rattle.value.proofs.Shift.{abs_back}
+use Rattle.value.proofs.SignedLaw.{abs_back}
 use Rattle.value.proofs.RootLaw.{RootThere, root_stands}
 use Rattle.value.proofs.CallLaw.{read_at}
 use Rattle.value.proofs.ExpressionLaw.{CallHere, is_variable, is_literal, is_more, no_more}

@@ -10,7 +10,7 @@ use lib.IntN.{ℤ, pos, nat_abs}
 use lib.ListN.{length, take, drop, length-append, length-take, length-drop}
 use lib.Seq.{drop-drop}
 use Rattle.minuska.specs.Basics.{◌>>=◌, provided, same_whole}
-use Rattle.minuska.specs.Term.{error, Forest, Term, cons, single, leaf, as_whole}
+use Rattle.minuska.specs.Term.{error, Term, cons, single, leaf, as_whole}
 use Rattle.minuska.specs.Dictionary.{Entries, max_entries, put, entry_terms, dictionary_term}
 use Rattle.minuska.specs.Word.{datum_word, encode}
 use Rattle.minuska.specs.Function.{out_of_range, as_dictionary, or_wrong_kind, kept, interpret}
@@ -184,10 +184,6 @@ pub new_slot : {ws : List ℤ} {n : ℕ} {key : ℤ} {i : ℕ} → SearchIs ws 0
 new_slot {ws} {n} {key} {i} o es a e = subst (λ (m : ℕ). Slot ws key es i i (m + 1)) a.count (lacks_slot e (o.is es a))
 
 -- ---- how many words a plan says
-pub wrong_plan : (xs vs : List ℤ) → plan_words xs S.None vs ≡ pos 0 ∷ pos 0 ∷ []
-unfolding plan_words
-wrong_plan xs vs = refl
-
 pub kept_plan : (xs : List ℤ) (p : Plan) (vs : List ℤ) → plan_words xs (S.Some p) vs ≡ (((pos 5 ∷ pos p.count ∷ take p.replaced.from (drop 2 xs)) ++ (pos 2 ∷ p.key ∷ [])) ++ vs) ++ drop p.replaced.to (drop 2 xs)
 unfolding plan_words placed
 kept_plan xs p vs = refl
@@ -217,7 +213,3 @@ behind_small table config d h =
     let b = size_small table config d h.is.within in
     let c = length-drop 2 (value_words table config d) in
     omega arith
-
--- THE WORDS THAT A PLAN SAYS ARE THOSE OF THE FUNCTION'S VALUE
-pub update_words : (table config : List ℤ) (d k v : Value) (p : S.Option Plan) (s t u : Term) → PlanContract table config d k p → IsValue table config d s → IsValue table config k t → IsValue table config v u → plan_words (value_words table config d) p (value_words table config v) ≡ encode (single (interpret updating (cons s (cons t (single u)))))
-update_words table config d k v p s t u c i j l = ap (plan_words (value_words table config d) p) l.words ∙ sym (c.is s t u i j)

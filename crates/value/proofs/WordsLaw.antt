@@ -1,8 +1,8 @@
 -- A value's words, by where it is.
 use mathlib.Core.Path.{◌≡◌, refl}
-use mathlib.Core.List.{List, [], ◌∷◌}
+use mathlib.Core.List.{List}
 use native.Mathlib.Omega.{arith}
-use lib.IntN.{ℤ, pos}
+use lib.IntN.{ℤ}
 use lib.ListN.{length, length-take, length-drop}
 use Rattle.value.specs.Value.{value_words, part_words, Within, size_of, Ordered}
 use Rattle.value.specs.declared.builtin.Root.{Root}

@@ -1,5 +1,5 @@
 -- A key among entries that stand one behind the other.
-use Rattle.std.specs.Prelude.{◌≡◌, List, [], ◌∷◌, ◌++◌, ℕ, ◌+◌, T, true, false, ℤ, length, Result, MatchResult}
+use Rattle.std.specs.Prelude.{◌≡◌, List, [], ◌∷◌, ◌++◌, ℕ, ◌+◌, T, false, ℤ, length, Result, MatchResult}
 use Rattle.std.specs.Int.Signed.{lt_z}
 use Rattle.minuska.specs.Basics.{Every, same_whole}
 use Rattle.minuska.specs.Term.{is_ground}

@@ -1,7 +1,7 @@
 -- What a call asks of its arguments and what they mean (`CallLaw`); the number of nodes left falls.
 use mathlib.Core.Path.{◌≡◌, sym, ap, ◌∙◌, subst⁻¹}
 use native.Mathlib.Omega.{arith}
-use Prim.Native.Nat.{ℕ, ◌+◌}
+use Prim.Native.Nat.{ℕ}
 use lib.Dec.{lit<}
 use lib.IntN.{pos}
 use lib.ListN.{get_or}
@@ -13,11 +13,11 @@ use Rattle.value.specs.Builtin.{root_of}
 use Rattle.value.specs.Evaluate.{first_term, rest_of}
 use Rattle.value.specs.declared.Value.TheVariants.{Computed}
 use Rattle.value.specs.declared.builtin.Root.{Root}
-use Rattle.value.proofs.Shift.{lit_pos}
+use Rattle.value.proofs.SignedLaw.{lit_pos}
 use Rattle.value.proofs.RootLaw.{label_is}
 use Rattle.value.proofs.ExpressionLaw.{is_more, no_more}
 use Rattle.value.proofs.MeantLaw.{call_meant, lookup_meant, evaluated, none_first, some_first, roots_are}
-use Rattle.value.proofs.CallLaw.{expression_room, the_call, code_is, first_wanted, first_is, behind_first, second_is_wanted, second_is, behind_second, third_is_wanted, third_is, call_ends}
+use Rattle.value.proofs.CallLaw.{expression_room, the_call, code_is, first_wanted, first_is, behind_first, second_wanted, second_is, behind_second, third_wanted, third_is, call_ends}
 use Rattle.value.proofs.Scope.+arguments_expression.Goals as goal
 
 -- ---- `arguments`: the first of a list that is not empty
@@ -76,7 +76,7 @@ expression-arguments-second-requires t c =
     let h = expression_room c.args.self.now.table.now c.args.self.now.configuration.now c.args.self.now.places.now.starts c.args.self.now.places.now.ends c.args.at _ c.requires.expression.expression c.requires.expression.term c.requires.expression.has in
     let d = c.decreases in
     let n = (first_is c.args.self.now.table.now c.args.self.now.configuration.now c.args.self.now.places.now.starts c.args.self.now.places.now.ends c.args.at _ c.requires.expression.expression c.requires.expression.term c.requires.expression.has c.requires.tag c.arity-count.result c.arity-count.ensures c.arguments-first.result c.arguments-first.ensures).next in
-    (omega arith, record { valuation = _; expressions = _; terms = _; have = behind_first c.args.self.now.table.now c.args.self.now.configuration.now c.args.self.now.places.now.starts c.args.self.now.places.now.ends c.args.at _ c.requires.expression.expression c.requires.expression.term c.requires.expression.has c.requires.tag c.arity-count.result c.arity-count.ensures c.arguments-first.result c.arguments-first.ensures; some = second_is_wanted c.args.self.now.table.now c.args.self.now.configuration.now c.args.self.now.places.now.starts c.args.self.now.places.now.ends c.args.at _ c.requires.expression.expression c.requires.expression.term c.requires.expression.has c.requires.tag c.arity-count.result c.arity-count.ensures c.arguments-first.result c.arguments-first.ensures })
+    (omega arith, record { valuation = _; expressions = _; terms = _; have = behind_first c.args.self.now.table.now c.args.self.now.configuration.now c.args.self.now.places.now.starts c.args.self.now.places.now.ends c.args.at _ c.requires.expression.expression c.requires.expression.term c.requires.expression.has c.requires.tag c.arity-count.result c.arity-count.ensures c.arguments-first.result c.arguments-first.ensures; some = second_wanted c.args.self.now.table.now c.args.self.now.configuration.now c.args.self.now.places.now.starts c.args.self.now.places.now.ends c.args.at _ c.requires.expression.expression c.requires.expression.term c.requires.expression.has c.requires.tag c.arity-count.result c.arity-count.ensures })
 
 pub expression-arguments-third-requires : goal.expression-arguments-third-requires
 expression-arguments-third-requires t c =
@@ -84,7 +84,7 @@ expression-arguments-third-requires t c =
     let d = c.decreases in
     let n = (first_is c.args.self.now.table.now c.args.self.now.configuration.now c.args.self.now.places.now.starts c.args.self.now.places.now.ends c.args.at _ c.requires.expression.expression c.requires.expression.term c.requires.expression.has c.requires.tag c.arity-count.result c.arity-count.ensures c.arguments-first.result c.arguments-first.ensures).next in
     let o = (second_is c.args.self.now.table.now c.args.self.now.configuration.now c.args.self.now.places.now.starts c.args.self.now.places.now.ends c.args.at _ c.requires.expression.expression c.requires.expression.term c.requires.expression.has c.requires.tag c.arity-count.result c.arity-count.ensures c.arguments-first.result c.arguments-first.ensures c.arguments-second.result c.arguments-second.ensures).next in
-    (omega arith, record { valuation = _; expressions = _; terms = _; have = behind_second c.args.self.now.table.now c.args.self.now.configuration.now c.args.self.now.places.now.starts c.args.self.now.places.now.ends c.args.at _ c.requires.expression.expression c.requires.expression.term c.requires.expression.has c.requires.tag c.arity-count.result c.arity-count.ensures c.arguments-first.result c.arguments-first.ensures c.arguments-second.result c.arguments-second.ensures; some = third_is_wanted c.args.self.now.table.now c.args.self.now.configuration.now c.args.self.now.places.now.starts c.args.self.now.places.now.ends c.args.at _ c.requires.expression.expression c.requires.expression.term c.requires.expression.has c.requires.tag c.arity-count.result c.arity-count.ensures c.arguments-first.result c.arguments-first.ensures c.arguments-second.result c.arguments-second.ensures })
+    (omega arith, record { valuation = _; expressions = _; terms = _; have = behind_second c.args.self.now.table.now c.args.self.now.configuration.now c.args.self.now.places.now.starts c.args.self.now.places.now.ends c.args.at _ c.requires.expression.expression c.requires.expression.term c.requires.expression.has c.requires.tag c.arity-count.result c.arity-count.ensures c.arguments-first.result c.arguments-first.ensures c.arguments-second.result c.arguments-second.ensures; some = third_wanted c.args.self.now.table.now c.args.self.now.configuration.now c.args.self.now.places.now.starts c.args.self.now.places.now.ends c.args.at _ c.requires.expression.expression c.requires.expression.term c.requires.expression.has c.requires.tag c.arity-count.result c.arity-count.ensures })
 
 -- ---- a lookup, or another call
 pub expression-lookup-value-requires : goal.expression-lookup-value-requires

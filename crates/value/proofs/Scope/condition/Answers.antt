@@ -10,7 +10,7 @@ use mir.Facts.{to_z-of_z}
 use borrow.Author.Rules.{rules}
 use Rattle.value.specs.Evaluate.{ConditionContract}
 use Rattle.value.specs.declared.Value.TheVariants.{Computed}
-use Rattle.value.proofs.Shift.{lit_pos}
+use Rattle.value.proofs.SignedLaw.{lit_pos}
 use Rattle.value.proofs.CallLaw.{expression_room, the_call}
 use Rattle.value.proofs.ShortLaw.{six}
 use Rattle.value.proofs.ConditionLaw.{first_meant, behind, behind_room, literal, by_node, second_meant, by_values}

@@ -6,7 +6,7 @@ use lib.ListN.{get_or}
 use mir.Syntax.{w64}
 use mir.Val.{SFits, of_z}
 use borrow.Author.Rules.{rules}
-use Rattle.value.proofs.Shift.{lit_pos}
+use Rattle.value.proofs.SignedLaw.{lit_pos}
 use Rattle.value.proofs.CallLaw.{expression_room}
 use Rattle.value.proofs.Scope.evaluate.Goals as goal
 

@@ -1,6 +1,5 @@
-use mathlib.Core.Path.{◌≡◌, ap}
+use mathlib.Core.Path.{ap}
 use native.Mathlib.Omega.{arith}
-use Prim.Native.Nat.{◌+◌}
 use lib.Dec.{lit<}
 use lib.IntN.{pos}
 use lib.ListN.{get_or}
@@ -9,10 +8,9 @@ use mir.Val.{SFits, of_z}
 use borrow.Author.Rules.{rules}
 use Rattle.minuska.specs.Term.{single}
 use Rattle.minuska.proofs.Bridge.ShapeLaw.{ok_shapely}
-use Rattle.value.proofs.Shift.{lit_pos, abs_back}
+use Rattle.value.proofs.SignedLaw.{lit_pos, abs_back}
 use Rattle.value.proofs.ExpressionLaw.{is_variable, is_ground_lem}
 use Rattle.value.proofs.MeantLaw.{variable_meant, ground_meant, evaluated}
-use Rattle.value.proofs.CallLaw.{expression_room}
 use Rattle.value.proofs.Scope.leaf.Goals as goal
 
 pub returns-then-self-at-eq-VARIABLE : goal.returns-then-self-at-eq-VARIABLE

@@ -1,18 +1,13 @@
 -- By where the dictionary is.
-use mathlib.Core.Path.{◌≡◌, subst, subst⁻¹}
-use mathlib.Core.Bool.{true}
+use mathlib.Core.Path.{subst}
 use lib.Dec.{lit<}
-use lib.IntN.{pos}
 use mir.Syntax.{w64}
 use mir.Val.{SFits}
 use mir.Facts.{to_z-of_z}
 use borrow.Author.Rules.{rules}
-use Rattle.minuska.specs.Basics.{same_whole}
-use Rattle.value.specs.Lookup.{LookupContract}
 use Rattle.value.specs.Value.{IsValue}
 use Rattle.value.specs.declared.Value.{Value}
-use Rattle.value.specs.declared.Value.TheVariants.{Table, Configuration, Computed}
-use Rattle.value.specs.declared.builtin.Root.{Root}
+use Rattle.value.specs.declared.Value.TheVariants.{Table, Configuration}
 use Rattle.value.proofs.BuiltinLaw.{tag_is, tag_not}
 use Rattle.value.proofs.LookupLaw.{table_here, configuration_here, lookup_no_key, lookup_computed, lookup_made}
 use Rattle.value.proofs.MeantLaw.{table_value, configuration_value}

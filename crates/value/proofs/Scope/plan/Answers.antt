@@ -1,14 +1,14 @@
 -- By the roots of its arguments, and by where its entry goes.
 use mathlib.Core.Path.{◌≡◌}
-use Prim.Native.Nat.{ℕ, ◌≤◌, ◌+◌}
+use Prim.Native.Nat.{◌+◌}
 use native.Mathlib.Omega.{arith}
 use lib.Dec.{lit<}
-use lib.IntN.{pos, nat_abs}
+use lib.IntN.{nat_abs}
 use mir.Syntax.{w64}
 use mir.Val.{SFits, to_z, of_z}
 use mir.Facts.{to_z-of_z}
 use borrow.Author.Rules.{rules}
-use Rattle.value.proofs.Shift.{abs_back}
+use Rattle.value.proofs.SignedLaw.{abs_back}
 use Rattle.value.proofs.BuiltinLaw.{tag_is, tag_not}
 use Rattle.value.proofs.UpdateLaw.{head_count, entries_in, plan_no_key, plan_no_dictionary, plan_keeps, plan_full, found_slot, new_slot}
 use Rattle.value.proofs.Scope.plan.Goals as goal

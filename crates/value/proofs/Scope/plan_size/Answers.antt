@@ -1,8 +1,6 @@
 use mathlib.Core.Path.{◌≡◌, ap}
 use native.Mathlib.Omega.{arith}
 use Prim.Native.Nat.{◌+◌, ◌-◌, ◌≤◌}
-use mathlib.Core.List.{List}
-use lib.IntN.{ℤ}
 use lib.ListN.{length, drop}
 use Rattle.value.specs.Update.{PlanFits, plan_words}
 use Rattle.value.specs.Value.{value_words, size_of}

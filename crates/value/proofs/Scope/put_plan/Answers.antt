@@ -1,9 +1,9 @@
 -- One part behind another.
-use mathlib.Core.Path.{◌≡◌, ap, sym, subst}
-use mathlib.Core.List.{List, [], ◌∷◌, ◌++◌}
+use mathlib.Core.Path.{◌≡◌, subst}
+use mathlib.Core.List.{[], ◌∷◌, ◌++◌}
 use Prim.Native.Nat.{ℕ, ◌+◌, ◌≤◌}
 use native.Mathlib.Omega.{arith}
-use lib.IntN.{ℤ, pos}
+use lib.IntN.{pos}
 use lib.ListN.{length, take, drop}
 use mir.Syntax.{w64}
 use mir.Val.{SFits}
@@ -15,7 +15,7 @@ use Rattle.value.specs.Copy.{PutContract}
 use Rattle.value.specs.Update.{PlanFits, plan_words}
 use Rattle.value.specs.Value.{value_words}
 use Rattle.value.proofs.WordsLaw.{size_is}
-use Rattle.value.proofs.WritingLaw.{plan_high, taken_length, front_room, value_room, last_room, put_kept}
+use Rattle.value.proofs.WritingLaw.{front_room, value_room, last_room, put_kept}
 use Rattle.value.proofs.Scope.put_plan.Goals as goal
 
 pub put_root-requires : goal.put_root-requires

@@ -1,6 +1,6 @@
 -- By where the value is.
 use mathlib.Core.Path.{subst, subst⁻¹}
-use Rattle.minuska.specs.Term.{Term, term_count}
+use Rattle.minuska.specs.Term.{term_count}
 use Rattle.value.specs.Value.{IsValue}
 use Rattle.value.specs.Root.{Head}
 use Rattle.value.specs.declared.Value.{Value}

@@ -1,7 +1,5 @@
-use mathlib.Core.Path.{◌≡◌, ap, sym, ◌∙◌, subst⁻¹}
-use native.Mathlib.Omega.{arith}
+use mathlib.Core.Path.{ap, sym, ◌∙◌}
 use Prim.Native.Nat.{ℕ, ◌+◌}
-use Rattle.minuska.specs.Rule.{updating}
 use Rattle.value.specs.Builtin.{root_of}
 use Rattle.value.specs.declared.Value.TheVariants.{Computed}
 use Rattle.value.specs.declared.builtin.Root.{Root}

@@ -1,6 +1,6 @@
 use mathlib.Core.Path.{◌≡◌, ap, subst, subst⁻¹}
 use native.Mathlib.Omega.{arith}
-use Prim.Native.Nat.{◌+◌, ◌<◌}
+use Prim.Native.Nat.{◌<◌}
 use lib.Dec.{lit<}
 use lib.IntN.{ℤ, pos}
 use lib.ListN.{get_or}
@@ -13,9 +13,9 @@ use borrow.Author.Tests.{ltb-true}
 use Rattle.minuska.specs.Term.{Term, term_count}
 use Rattle.value.specs.Root.{Head, root_at}
 use Rattle.value.specs.declared.builtin.Root.{Root}
-use Rattle.value.proofs.Shift.{lit_pos, abs_back}
-use Rattle.value.proofs.RootLaw.{RootThere, root_stands}
-use Rattle.value.proofs.ExpressionLaw.{is_variable, is_ground_lem}
+use Rattle.value.proofs.SignedLaw.{lit_pos}
+use Rattle.value.proofs.RootLaw.{root_stands}
+use Rattle.value.proofs.ExpressionLaw.{is_ground_lem}
 use Rattle.value.proofs.ShortLaw.{variable_root}
 use Rattle.value.proofs.Scope.short_root.Goals as goal
 

@@ -1,7 +1,7 @@
 use mathlib.Core.Path.{ap, ◌∙◌}
 use Prim.Native.Nat.{◌≤◌}
 use native.Mathlib.Omega.{arith}
-use Rattle.value.specs.Builtin.{root_of, label_of, applied}
+use Rattle.value.specs.Builtin.{root_of}
 use Rattle.value.proofs.BuiltinLaw.{no_function_lem}
 use Rattle.value.proofs.builtin.apply.Goals as goal
 

@@ -1,5 +1,4 @@
 use mathlib.Core.Path.{ap}
-use Prim.Native.Nat.{◌+◌}
 use native.Mathlib.Omega.{arith}
 use lib.Dec.{lit<}
 use lib.IntN.{pos}
@@ -8,7 +7,7 @@ use mir.Syntax.{w64}
 use mir.Val.{SFits, of_z}
 use mir.Facts.{to_z-of_z}
 use borrow.Author.Rules.{rules}
-use Rattle.value.proofs.Shift.{lit_pos}
+use Rattle.value.proofs.SignedLaw.{lit_pos}
 use Rattle.value.proofs.LookupLaw.{find_other, counted, entries_in, find_absent, find_here, find_room}
 use Rattle.value.proofs.lookup.find.Goals as goal
 

@@ -1,14 +1,14 @@
 -- The walk from its turns (`SearchLaw`), at the key and the word as they are read back.
 use mathlib.Core.Path.{◌≡◌, refl, subst}
-use Prim.Native.Nat.{ℕ, ◌+◌, ◌-◌, ◌≤◌, ◌<◌}
+use Prim.Native.Nat.{ℕ, ◌+◌, ◌-◌}
 use native.Mathlib.Omega.{arith}
-use lib.IntN.{ℤ, pos}
-use lib.ListN.{length, get_or}
+use lib.IntN.{pos}
+use lib.ListN.{get_or}
 use mir.Syntax.{w64}
 use mir.Val.{SFits}
 use mir.Facts.{to_z-of_z}
 use borrow.Author.Rules.{rules}
-use Rattle.value.proofs.Shift.{word_is, word_not}
+use Rattle.value.proofs.SignedLaw.{word_is, word_not}
 use Rattle.value.proofs.SearchLaw.{Searching, search_start, search_end, search_room, search_value, search_stop, search_here, search_on}
 use Rattle.value.proofs.search.search.Goals as goal
 

@@ -1,6 +1,5 @@
 -- At most one term stands at a place, so whatever term stands there is the call.
 use mathlib.Core.Path.{◌≡◌, refl, sym, ◌∙◌, ap}
-use native.Mathlib.Omega.{arith}
 use Prim.Native.Nat.{ℕ, ◌+◌}
 use lib.ListN.{length}
 use Rattle.minuska.specs.Term.{Forest, single}

@@ -1,4 +1,4 @@
-use mathlib.Core.Path.{refl, ◌∙◌, ap, sym}
+use mathlib.Core.Path.{refl, ◌∙◌, ap}
 use mathlib.Core.Bool.{Bool, beq, ◌&&◌, ◌||◌}
 use lib.Dec.{lit<}
 use lib.Signed.{le_z, lt_z}
@@ -10,7 +10,7 @@ use Rattle.minuska.specs.Basics.{same_whole}
 use Rattle.minuska.specs.Term.{truth}
 use Rattle.minuska.specs.Function.{truth_term}
 use Rattle.value.specs.Builtin.{root_of, applied}
-use Rattle.value.proofs.Shift.{eq_bits}
+use Rattle.value.proofs.SignedLaw.{eq_bits}
 use Rattle.value.proofs.BuiltinLaw.{truths, wholes, two_value, tag_seen, is_there}
 use Rattle.value.proofs.builtin.Function.at.Goals as goal
 
