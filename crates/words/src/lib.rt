@@ -15,7 +15,7 @@ pub fn number_at(words: &[i64], at: usize) -> usize
 }
 
 pub fn put(words: &mut [i64], at: usize, number: usize)
-    requires { (at < length words.old) × (number < 2 ^ 32) }
+    requires { (at < length words.old) × (number < 2 ^ 63) }
     ensures { words.new ≡ set words.old at (pos number) }
 {
     words[at] = number as i64;
