@@ -3,6 +3,7 @@
 
 mod expression;
 mod fill;
+pub mod checked;
 pub mod index;
 pub mod key;
 mod node;

@@ -12,6 +12,7 @@ ghost use Rattle.term.specs.TermEnd.{any_label, ground_label, arity_of, children
 
 use minuska::limits::MAX_CONFIGURATION_WORDS;
 
+pub mod configuration;
 pub mod ground;
 pub mod order;
 
