@@ -1,11 +1,10 @@
 // A configuration that the check has accepted.
-ghost use Rattle.std.specs.Prelude.{◌≡◌, IfOk, OnOk, IfErr};
+ghost use Rattle.std.specs.Prelude.{◌≡◌, IfOk, OnOk, IfErr, Ok, Err};
 ghost use Rattle.minuska.specs.Bridge.Place.{Accepted};
 ghost use Rattle.minuska.specs.Computed.Outcome.{configuration_check};
-ghost use Rattle.minuska.specs.declared.Check.TheVariants.{Good, Refused};
 ghost use Rattle.term.specs.Configuration.{Accepted-prop};
 
-use minuska::{Check, Refusal};
+use minuska::Refusal;
 
 // The words of a configuration.
 #[derive(Clone, Copy)]
@@ -18,12 +17,10 @@ impl<'a> Configuration<'a> {
     // Checks that the words are exactly one configuration.
     pub fn check(words: &'a [i64]) -> Result<Self, Refusal>
         ensures configuration { IfOk result (λ c. c.words.now ≡ words.now) }
-        ensures good { OnOk result (configuration_check words.now ≡ Good) }
-        ensures bad { IfErr result (λ r. configuration_check words.now ≡ Refused r) }
+        ensures good { OnOk result (configuration_check words.now ≡ Ok tt) }
+        ensures bad { IfErr result (λ r. configuration_check words.now ≡ Err r) }
     {
-        match crate::check_configuration(words) {
-            Check::Good => Ok(Configuration { words }),
-            Check::Refused(r) => Err(r),
-        }
+        crate::check_configuration(words)?;
+        Ok(Configuration { words })
     }
 }
