@@ -7,7 +7,7 @@ use native.Mathlib.Nat.{mul-le-mul_right, suc-mul}
 use native.Mathlib.Omega.{arith}
 use lib.IntN.{ℤ, pos}
 use lib.ListN.{length, get_or, take, drop, set, length-set, length-append, length-drop}
-use lib.Seq.{paste, length-paste, get_or-set_other, get_or-set_same, get_or-take, get_or-drop, length-take-le, take_at, drop_at, take-set-le, drop-set-lt}
+use lib.Seq.{paste, length-paste, get_or-set_other, get_or-set_same, get_or-take, get_or-drop, length-take-le, take_at, drop_at, take-set-le, drop-set-lt, drop-drop}
 use Rattle.words.specs.Number.{nat_of}
 use Rattle.words.proofs.PartLaw.{part_take, drop_later, front_same}
 use Rattle.words.proofs.CopyLaw.{paste_start, paste_behind}
@@ -209,3 +209,14 @@ module _ (room : ℕ) (work w : List ℤ) (i : ℕ) (fits : base room i + (room 
       at k h (no l) =
           let e : i ≡ k = omega arith in
           ap (λ (x : ℕ). length_of (frame_at room w' x)) (sym e) ∙ here
+
+-- ---- a frame that is lent, by the places between which it lies
+module _ (room : ℕ) (work : List ℤ) (i start end : ℕ) (from : start ≡ base room i) (to : end ≡ base room i + (room + 2)) where
+  span : end - start ≡ room + 2
+  span = omega arith
+
+  pub lent_frame : take (end - start) (drop start work) ≡ frame_at room work i
+  lent_frame = rw (span, from)
+
+  pub lent_back : (frame : List ℤ) → take start work ++ (frame ++ drop (end - start) (drop start work)) ≡ with_frame room work i frame
+  lent_back frame = rw (span, from) (ap (λ (l : List ℤ). take (base room i) work ++ (frame ++ l)) (drop-drop (room + 2) (base room i) work))

@@ -3,6 +3,8 @@
 ghost use Rattle.std.specs.Prelude.{◌≡◌, ◌+◌, ◌^◌, ◌≤◌, ◌<◌, length};
 ghost use Rattle.memory.specs.Layout.{max_room, base, length_of, position_of, words_of, OwnFits, advanced, entered};
 
+use std::ops::Range;
+
 // The words of a frame that are not its configuration's.
 pub const EXTRA: usize = 2;
 
@@ -12,6 +14,16 @@ pub fn base_at(room: usize, depth: usize) -> usize
     ensures { result ≡ base room depth }
 {
     depth * (room + EXTRA)
+}
+
+// Where it lies.
+pub fn place(room: usize, depth: usize) -> Range<usize>
+    requires { (room ≤ max_room) × (base room depth + (room + 2) < 2 ^ 64) }
+    ensures start { result.start ≡ base room depth }
+    ensures end { result.end ≡ base room depth + (room + 2) }
+{
+    let at = base_at(room, depth);
+    at..at + (room + EXTRA)
 }
 
 #[tactic(auto, unfolding(crate::specs::Layout::position_of))]
