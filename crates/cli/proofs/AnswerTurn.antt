@@ -1,4 +1,4 @@
--- The returns of the routines that answer a request, four lines and an input.
+-- The returns of the routine that answers a request.
 use mathlib.Core.Path.{◌≡◌, refl, sym, ap, ◌∙◌, subst, subst⁻¹}
 use mathlib.Core.List.{List}
 use Prim.Native.Nat.{ℕ, ◌+◌, ◌-◌, ◌*◌, ◌≤◌}
@@ -19,7 +19,6 @@ use Rattle.replay.specs.declared.CountedAnswer.TheVariants as A
 use Rattle.replay.specs.Counted.{counted_answer, uncounted, CountedContract}
 use Rattle.cli.proofs.CallerLaw.{choices_length}
 use Rattle.cli.specs.Output.{answer_text, reproduced_text, refused_text, not_reproduced_text}
-use Rattle.decimal.specs.Computed.Put.{Wrote}
 
 -- ---- what an outcome's answer tells
 not_reproduced_is : (o : Outcome (ReplayResult Term)) → A.NotReproduced ≡ counted_answer o → answer_text o ≡ not_reproduced_text
@@ -60,7 +59,7 @@ write_fits xs old new e s =
 pub record Shown (ws cs : List ℤ) (log : List ℕ) (n : ℕ) (out' : List ℤ) (choices' : List ℕ) (end : ℕ) : Type 0 where
   pub choices_room : length log ≤ length choices'
   pub words_room : end ≤ length out'
-  pub text_room : 64 + 21 * length (take (length log) choices') + 22 * length (take end out') ≤ 28672
+  pub text_room : 64 + 21 * length (take (length log) choices') + 21 * length (take end out') ≤ 28672
   pub text : answer_text (replay_outcome ws cs log n 1024 256 4096) ≡ reproduced_text (take (length log) choices') (take end out')
 
 module _ (ws cs : List ℤ) (log : List ℕ) (n : ℕ) (out : List ℤ) (choices : List ℕ) (work out' : List ℤ) (choices' : List ℕ) (work' : List ℤ) (r : CountedAnswer)
@@ -68,12 +67,11 @@ module _ (ws cs : List ℤ) (log : List ℕ) (n : ℕ) (out : List ℤ) (choices
   outcome_is : k.replays.outcome ≡ replay_outcome ws cs log n 1024 256 4096
   outcome_is = k.replays.is ∙ rw (a, b, c)
 
-  module _ (old new : List ℕ) (m : ℕ) where
-    pub not_reproduced_answer : r ≡ A.NotReproduced → Wrote old 0 not_reproduced_text new m → Wrote old 0 (answer_text (replay_outcome ws cs log n 1024 256 4096)) new m
-    not_reproduced_answer e w = rw (← outcome_is, not_reproduced_is k.replays.outcome (sym e ∙ k.counts)) w
+  pub not_reproduced_answer : r ≡ A.NotReproduced → answer_text (replay_outcome ws cs log n 1024 256 4096) ≡ not_reproduced_text
+  not_reproduced_answer e = rw (← outcome_is, not_reproduced_is k.replays.outcome (sym e ∙ k.counts))
 
-    pub refused_answer : (why : Refusal) → r ≡ A.Refused why → Wrote old 0 (refused_text why) new m → Wrote old 0 (answer_text (replay_outcome ws cs log n 1024 256 4096)) new m
-    refused_answer why e w = rw (← outcome_is, refused_is k.replays.outcome why (sym e ∙ k.counts)) w
+  pub refused_answer : (why : Refusal) → r ≡ A.Refused why → answer_text (replay_outcome ws cs log n 1024 256 4096) ≡ refused_text why
+  refused_answer why e = rw (← outcome_is, refused_is k.replays.outcome why (sym e ∙ k.counts))
 
   module _ (nodes : ℕ) (e : r ≡ A.Reproduced nodes) (s : length out' ≡ length out) (t : length choices' ≡ length choices) where
     the : Reproduced k.replays.outcome nodes
@@ -106,7 +104,7 @@ module _ (ws cs : List ℤ) (log : List ℕ) (n : ℕ) (out : List ℤ) (choices
       words_room_lem : end ≤ length out'
       words_room_lem = subst⁻¹ (λ (m : ℕ). m ≤ length out') end_is_lem (write_fits found_words_lem out out' words_are s)
 
-      text_room_lem : 64 + 21 * length (take (length log) choices') + 22 * length (take end out') ≤ 28672
+      text_room_lem : 64 + 21 * length (take (length log) choices') + 21 * length (take end out') ≤ 28672
       text_room_lem =
           let l : length (take (length log) choices') ≡ length log = length-take-le (length log) choices' choices_room_lem in
           let m : length (take end out') ≡ end = length-take-le end out' words_room_lem in
