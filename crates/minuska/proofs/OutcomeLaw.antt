@@ -7,12 +7,13 @@ use mathlib.Core.List.{List, [], ◌∷◌}
 use Prim.Native.Nat.{ℕ, ◌≤◌}
 use native.Mathlib.Omega.{arith}
 use lib.Dec.{eqb, ltb}
+use Rattle.std.specs.Prelude.{Result, Ok, Err}
 use lib.ListN.{length}
 use lib.IntN.{ℤ}
 use borrow.Author.Tests.{ltb-false}
 use Rattle.minuska.specs.Term.{Term, node_count}
 use Rattle.minuska.specs.Rule.{Table, IsTable, IsConfiguration, max_nodes, max_steps, max_actions}
-use Rattle.minuska.specs.Answer.{Refusal, number, Check, Good, Refused, BadTable, BadConfiguration, Outcome, refused, gives}
+use Rattle.minuska.specs.Answer.{Refusal, number, BadTable, BadConfiguration, Outcome, refused, gives}
 use Rattle.minuska.specs.Claim.{TableClaim, ConfigurationClaim, MatchClaim, ReasonsClaim, RuleClaim, StepClaim, RunClaim, ReplayClaim, Meets}
 use Rattle.minuska.specs.Computed.Read.{read_table, read_configuration}
 use Rattle.minuska.specs.Computed.Compare.{match_rule}
@@ -32,30 +33,30 @@ use Rattle.minuska.proofs.ReplayLaw.{replay_meets}
 
 -- ---- the checks
 module _ {A : Type 0} (o : Option A) (r : Refusal) (Is : A → Type 0) (is : (a : A) → (o ≡ some a) ↔ Is a) where
-  refused_not : Refused r ≡ Good → ⊥
-  refused_not e = let z : ◌≡◌ {A = ℕ} 0 1 = cc in omega arith
+  refused_not : ◌≡◌ {A = Result (Unit {0}) Refusal} (Err r) (Ok tt) → ⊥
+  refused_not e = cc
 
-  checked_good : (checked r o ≡ Good) ↔ ((a : A) × Is a)
+  checked_good : (checked r o ≡ Ok tt) ↔ ((a : A) × Is a)
   checked_good = (there o refl, λ h. ap (checked r) ((is h.0).1 h.1))
     where
-      there : (p : Option A) → o ≡ p → checked r p ≡ Good → (a : A) × Is a
+      there : (p : Option A) → o ≡ p → checked r p ≡ Ok tt → (a : A) × Is a
       there none e z = absurd (refused_not z)
       there (some a) e z = (a, (is a).0 e)
 
-  checked_bad : (checked r o ≡ Refused r) ↔ ((a : A) → Is a → ⊥)
+  checked_bad : (checked r o ≡ Err r) ↔ ((a : A) → Is a → ⊥)
   checked_bad = (
     (λ z a h. refused_not (sym z ∙ ap (checked r) ((is a).1 h))),
     back o refl,
   )
     where
-      back : (p : Option A) → o ≡ p → ((a : A) → Is a → ⊥) → checked r p ≡ Refused r
+      back : (p : Option A) → o ≡ p → ((a : A) → Is a → ⊥) → checked r p ≡ Err r
       back none e f = refl
       back (some a) e f = absurd (f a ((is a).0 e))
 
   -- the same by document 01's number
   checked_says : (number r ≡ 0 → ⊥) → ((check_says (checked r o)).number ≡ number r) ↔ ((a : A) → Is a → ⊥)
   unfolding check_says
-  checked_says n = (there o refl, λ f. ap (λ (x : Check). (check_says x).number) (checked_bad.1 f))
+  checked_says n = (there o refl, λ f. ap (λ (x : Result (Unit {0}) Refusal). (check_says x).number) (checked_bad.1 f))
     where
       there : (p : Option A) → o ≡ p → (check_says (checked r p)).number ≡ number r → (a : A) → Is a → ⊥
       there none e z = checked_bad.0 (ap (checked r) e)

@@ -2,8 +2,10 @@
 use Rattle.std.specs.Prelude.{List, [], ◌∷◌, ℕ}
 pub use Rattle.minuska.specs.declared.Refusal.{Refusal}
 pub use Rattle.minuska.specs.declared.Refusal.TheVariants.{BadTable, BadConfiguration, TooLong, BadLimit, ShortBuffer, OverLimit, Unreadable}
-pub use Rattle.minuska.specs.declared.Check.{Check}
-pub use Rattle.minuska.specs.declared.Check.TheVariants.{Good, Refused}
+pub use Rattle.minuska.specs.declared.Stepped.{Stepped}
+pub use Rattle.minuska.specs.declared.MatchAnswer.{MatchAnswer}
+pub use Rattle.minuska.specs.declared.RunAnswer.{RunAnswer}
+pub use Rattle.minuska.specs.declared.ReplayAnswer.{ReplayAnswer}
 use Rattle.minuska.specs.Term.{Term}
 use Rattle.minuska.specs.Obstacle.{Reason}
 

@@ -1,5 +1,5 @@
 -- THE CLAIMS: what each answer means, over the relations alone, a field for each sentence. The computed answers meet them, and no others do (`proofs/`).
-use Rattle.std.specs.Prelude.{◌≡◌, ◌⊎◌, ◌↔◌, List, [], ◌∷◌, ℕ, zero, suc, ◌+◌, ◌*◌, ◌≤◌, ◌<◌, length, ℤ}
+use Rattle.std.specs.Prelude.{◌≡◌, ◌⊎◌, ◌↔◌, List, [], ◌∷◌, ℕ, zero, suc, ◌+◌, ◌*◌, ◌≤◌, ◌<◌, length, ℤ, Result, Ok, Err}
 use Rattle.std.proofs.Math.Option.{none, some}
 use Rattle.std.proofs.Math.ListN.{get_elem?}
 use Rattle.minuska.specs.Term.{Term, single, node_count}
@@ -9,16 +9,16 @@ use Rattle.minuska.specs.Obstacle.{Reason, Obstacle}
 use Rattle.minuska.specs.Rule.{Rule, Table, max_nodes, max_steps, max_actions, IsTable, IsConfiguration}
 use Rattle.minuska.specs.Rewriting.{RewritesBy, Earlier, First, Applies, NextAbove, Stuck}
 use Rattle.minuska.specs.Path.{Yields, Before, Exceeds}
-use Rattle.minuska.specs.Answer.{Check, Good, Refused, BadTable, BadConfiguration, TooLong, BadLimit, ShortBuffer, Row, Outcome, refused, gives, MatchResult, matched, misfit, ReasonsResult, listed, not_stuck, StepResult, stepped, stuck, too_large, ends_stuck, ends_spent, ends_over, RunResult, ReplayResult, reproduced, exceeded, not_reproduced}
+use Rattle.minuska.specs.Answer.{Refusal, BadTable, BadConfiguration, TooLong, BadLimit, ShortBuffer, Row, Outcome, refused, gives, MatchResult, matched, misfit, ReasonsResult, listed, not_stuck, StepResult, stepped, stuck, too_large, ends_stuck, ends_spent, ends_over, RunResult, ReplayResult, reproduced, exceeded, not_reproduced}
 
 -- The two checks: good exactly if there is such a table, such a configuration; else 1, 2.
-pub record TableClaim (ws : List ℤ) (x : Check) : Type 0 where
-  pub good : (x ≡ Good) ↔ ((table : Table) × IsTable ws table)
-  pub bad : (x ≡ Refused BadTable) ↔ ((table : Table) → IsTable ws table → ⊥)
+pub record TableClaim (ws : List ℤ) (x : Result (Unit {0}) Refusal) : Type 0 where
+  pub good : (x ≡ Ok tt) ↔ ((table : Table) × IsTable ws table)
+  pub bad : (x ≡ Err BadTable) ↔ ((table : Table) → IsTable ws table → ⊥)
 
-pub record ConfigurationClaim (ws : List ℤ) (x : Check) : Type 0 where
-  pub good : (x ≡ Good) ↔ ((g : Term) × IsConfiguration ws g)
-  pub bad : (x ≡ Refused BadConfiguration) ↔ ((g : Term) → IsConfiguration ws g → ⊥)
+pub record ConfigurationClaim (ws : List ℤ) (x : Result (Unit {0}) Refusal) : Type 0 where
+  pub good : (x ≡ Ok tt) ↔ ((g : Term) × IsConfiguration ws g)
+  pub bad : (x ≡ Err BadConfiguration) ↔ ((g : Term) → IsConfiguration ws g → ⊥)
 
 -- The left of one rule, conditions aside, and "how many left nodes it compared" (document 02, request 3).
 pub record MatchClaim (table : Table) (n : ℕ) (g : Term) (x : MatchResult) : Type 0 where

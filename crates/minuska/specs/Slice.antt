@@ -1,23 +1,15 @@
 -- What a routine returns and leaves: its answer with document 01's number, and every word of every lent slice afterwards (the columns of
 -- "Turned back", and "Step, run, replay"). Shut names, for contracts.
-use Rattle.std.specs.Prelude.{List, [], ◌∷◌, ◌++◌, ℕ, ◌*◌, ◌-◌, ◌/◌, min, ℤ, pos, length, drop, replicate}
-use Rattle.minuska.specs.declared.Check.TheVariants as C
-use Rattle.minuska.specs.declared.MatchAnswer.{MatchAnswer}
+use Rattle.std.specs.Prelude.{List, [], ◌∷◌, ◌++◌, ℕ, ◌*◌, ◌-◌, ◌/◌, min, ℤ, pos, length, drop, replicate, Option, Some, None, Result, Ok, Err}
 use Rattle.minuska.specs.declared.MatchAnswer.TheVariants as M
-use Rattle.minuska.specs.declared.ReasonsAnswer.{ReasonsAnswer}
-use Rattle.minuska.specs.declared.ReasonsAnswer.TheVariants as Q
-use Rattle.minuska.specs.declared.StepAnswer.{StepAnswer}
-use Rattle.minuska.specs.declared.StepAnswer.TheVariants as S
-use Rattle.minuska.specs.declared.RunAnswer.{RunAnswer}
 use Rattle.minuska.specs.declared.RunAnswer.TheVariants as R
-use Rattle.minuska.specs.declared.ReplayAnswer.{ReplayAnswer}
 use Rattle.minuska.specs.declared.ReplayAnswer.TheVariants as P
 use Rattle.minuska.specs.Term.{Term, single, node_count}
 use Rattle.minuska.specs.Word.{encode}
 use Rattle.minuska.specs.Obstacle.{Reason, left_differs, condition_fails}
 use Rattle.minuska.specs.Rule.{max_nodes}
 use Rattle.minuska.specs.Claim.{work_words}
-use Rattle.minuska.specs.Answer.{Refusal, OverLimit, number, Check, Outcome, refused, gives, MatchResult, matched, misfit, ReasonsResult, listed, not_stuck, StepResult, stepped, stuck, too_large, Ending, ends_stuck, ends_spent, ends_over, RunResult, ReplayResult, reproduced, exceeded, not_reproduced}
+use Rattle.minuska.specs.Answer.{Refusal, OverLimit, number, Stepped, MatchAnswer, RunAnswer, ReplayAnswer, Outcome, refused, gives, MatchResult, matched, misfit, ReasonsResult, listed, not_stuck, StepResult, stepped, stuck, too_large, Ending, ends_stuck, ends_spent, ends_over, RunResult, ReplayResult, reproduced, exceeded, not_reproduced}
 
 -- WHAT IS SAID: document 01's number, 0 where nothing is refused, and the values that are returned with it.
 pub record Said : Type 0 where
@@ -30,36 +22,38 @@ told values = record { number = 0; values = values }
 abbrev pub turned_back : Refusal → List ℕ → Said
 turned_back r values = record { number = number r; values = values }
 
--- by each case of an enum
-unfoldable pub check_says : Check → Said
-check_says C.Good = told []
-check_says (C.Refused r) = turned_back r []
+-- by each case of what a routine returns
+unfoldable pub check_says : Result (Unit {0}) Refusal → Said
+check_says (Ok _) = told []
+check_says (Err r) = turned_back r []
 
-unfoldable pub match_says : MatchAnswer → Said
-match_says (M.Matches k) = told (k ∷ [])
-match_says (M.Differs k) = told (k ∷ [])
-match_says (M.Refused r) = turned_back r []
+unfoldable pub match_says : Result MatchAnswer Refusal → Said
+match_says (Ok (M.Matches k)) = told (k ∷ [])
+match_says (Ok (M.Differs k)) = told (k ∷ [])
+match_says (Err r) = turned_back r []
 
-unfoldable pub reasons_says : ReasonsAnswer → Said
-reasons_says Q.Listed = told []
-reasons_says (Q.NotStuck n) = told (n ∷ [])
-reasons_says (Q.Refused r) = turned_back r []
+-- none: stuck, and the list is written; else the rule that a step takes
+unfoldable pub reasons_says : Result (Option ℕ) Refusal → Said
+reasons_says (Ok None) = told []
+reasons_says (Ok (Some n)) = told (n ∷ [])
+reasons_says (Err r) = turned_back r []
 
-unfoldable pub step_says : StepAnswer → Said
-step_says (S.Stepped n a k) = told (n ∷ a ∷ k ∷ [])
-step_says S.Stuck = told []
-step_says (S.Refused r) = turned_back r []
+-- none: stuck
+unfoldable pub step_says : Result (Option Stepped) Refusal → Said
+step_says (Ok (Some s)) = told (s.rule ∷ s.action ∷ s.nodes ∷ [])
+step_says (Ok None) = told []
+step_says (Err r) = turned_back r []
 
-unfoldable pub run_says : RunAnswer → Said
-run_says (R.Stuck k) = told (k ∷ [])
-run_says (R.Spent k) = told (k ∷ [])
-run_says (R.Over k) = turned_back OverLimit (k ∷ [])
-run_says (R.Refused r) = turned_back r []
+unfoldable pub run_says : Result RunAnswer Refusal → Said
+run_says (Ok (R.Stuck k)) = told (k ∷ [])
+run_says (Ok (R.Spent k)) = told (k ∷ [])
+run_says (Ok (R.Over k)) = turned_back OverLimit (k ∷ [])
+run_says (Err r) = turned_back r []
 
-unfoldable pub replay_says : ReplayAnswer → Said
-replay_says P.Reproduced = told []
-replay_says P.NotReproduced = told []
-replay_says (P.Refused r) = turned_back r []
+unfoldable pub replay_says : Result ReplayAnswer Refusal → Said
+replay_says (Ok P.Reproduced) = told []
+replay_says (Ok P.NotReproduced) = told []
+replay_says (Err r) = turned_back r []
 
 -- by an outcome
 abbrev pub outcome_says : {A : Type 0} → (A → Said) → Outcome A → Said
@@ -92,37 +86,37 @@ replay_result_says (reproduced ns h) = told []
 replay_result_says exceeded = turned_back OverLimit []
 replay_result_says not_reproduced = told []
 
--- THE ANSWERS RETURNED: what each outcome is in the routine's enum.
-unfoldable pub match_answer : Outcome MatchResult → MatchAnswer
-match_answer (refused r) = M.Refused r
-match_answer (gives (matched k)) = M.Matches k
-match_answer (gives (misfit k)) = M.Differs k
+-- THE ANSWERS RETURNED: what each outcome is in what the routine returns.
+unfoldable pub match_answer : Outcome MatchResult → Result MatchAnswer Refusal
+match_answer (refused r) = Err r
+match_answer (gives (matched k)) = Ok (M.Matches k)
+match_answer (gives (misfit k)) = Ok (M.Differs k)
 
-unfoldable pub reasons_answer : Outcome ReasonsResult → ReasonsAnswer
-reasons_answer (refused r) = Q.Refused r
-reasons_answer (gives (listed os)) = Q.Listed
-reasons_answer (gives (not_stuck n)) = Q.NotStuck n
+unfoldable pub reasons_answer : Outcome ReasonsResult → Result (Option ℕ) Refusal
+reasons_answer (refused r) = Err r
+reasons_answer (gives (listed os)) = Ok None
+reasons_answer (gives (not_stuck n)) = Ok (Some n)
 
-unfoldable pub step_answer : Outcome StepResult → StepAnswer
-step_answer (refused r) = S.Refused r
-step_answer (gives (stepped n a h)) = S.Stepped n a (node_count h)
-step_answer (gives stuck) = S.Stuck
-step_answer (gives too_large) = S.Refused OverLimit
+unfoldable pub step_answer : Outcome StepResult → Result (Option Stepped) Refusal
+step_answer (refused r) = Err r
+step_answer (gives (stepped n a h)) = Ok (Some (record { rule = n; action = a; nodes = node_count h }))
+step_answer (gives stuck) = Ok None
+step_answer (gives too_large) = Err OverLimit
 
 abbrev pub ended_as : Ending → ℕ → RunAnswer
 ended_as ends_stuck k = R.Stuck k
 ended_as ends_spent k = R.Spent k
 ended_as ends_over k = R.Over k
 
-unfoldable pub run_answer : Outcome RunResult → RunAnswer
-run_answer (refused r) = R.Refused r
-run_answer (gives x) = ended_as x.ending x.steps
+unfoldable pub run_answer : Outcome RunResult → Result RunAnswer Refusal
+run_answer (refused r) = Err r
+run_answer (gives x) = Ok (ended_as x.ending x.steps)
 
-unfoldable pub replay_answer : Outcome (ReplayResult Term) → ReplayAnswer
-replay_answer (refused r) = P.Refused r
-replay_answer (gives (reproduced ns h)) = P.Reproduced
-replay_answer (gives exceeded) = P.Refused OverLimit
-replay_answer (gives not_reproduced) = P.NotReproduced
+unfoldable pub replay_answer : Outcome (ReplayResult Term) → Result ReplayAnswer Refusal
+replay_answer (refused r) = Err r
+replay_answer (gives (reproduced ns h)) = Ok P.Reproduced
+replay_answer (gives exceeded) = Err OverLimit
+replay_answer (gives not_reproduced) = Ok P.NotReproduced
 
 -- THE SLICES AFTERWARDS.
 -- Words written from the start of a slice, "the words behind it keep"; the same with zeros behind, up to n words.

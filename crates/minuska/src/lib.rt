@@ -6,88 +6,57 @@ pub mod limits;
 ghost use Rattle.std.specs.Prelude.{◌≡◌};
 ghost use Rattle.minuska.specs.Answer.{number};
 
-// Why a call is refused (document 01, "Turned back").
-#[derive(Clone, Copy)]
+// Why a call is refused, with its number (document 01, "Turned back").
+#[derive(Clone, Copy, Debug, PartialEq, Eq)]
 pub enum Refusal {
-    BadTable,
-    BadConfiguration,
-    TooLong,
-    BadLimit,
-    ShortBuffer,
-    OverLimit,
-    Unreadable,
+    BadTable = 1,
+    BadConfiguration = 2,
+    TooLong = 3,
+    BadLimit = 4,
+    ShortBuffer = 5,
+    OverLimit = 6,
+    Unreadable = 7,
 }
 
-// Its number there.
-#[tactic(auto, unfolding(crate::specs::Answer::number))]
-pub fn number(refusal: Refusal) -> u64
-    ensures { result ≡ number refusal }
-{
-    match refusal {
-        Refusal::BadTable => 1,
-        Refusal::BadConfiguration => 2,
-        Refusal::TooLong => 3,
-        Refusal::BadLimit => 4,
-        Refusal::ShortBuffer => 5,
-        Refusal::OverLimit => 6,
-        Refusal::Unreadable => 7,
+impl From<Refusal> for u64 {
+    ghost from_gives = { λ refusal n. n ≡ number refusal };
+
+    #[tactic(auto, unfolding(crate::specs::Answer::number))]
+    fn from(refusal: Refusal) -> u64 {
+        refusal as u64
     }
 }
 
-// A check of a table or of a configuration.
-#[derive(Clone, Copy)]
-pub enum Check {
-    Good,
-    Refused(Refusal),
-}
-
-// A step, or the step by one given rule: stuck where no rule applies, where that rule does not.
-#[derive(Clone, Copy)]
-pub enum StepAnswer {
-    Stepped {
-        rule: usize,
-        action: u16,
-        nodes: usize,
-    },
-    Stuck,
-    Refused(Refusal),
+// A step: the rule, its action, and how many nodes the successor has.
+#[derive(Clone, Copy, Debug, PartialEq, Eq)]
+pub struct Stepped {
+    pub rule: usize,
+    pub action: u16,
+    pub nodes: usize,
 }
 
 // A rule's left matched against a configuration, with how many of the left's nodes were compared (document 02, request 3).
-#[derive(Clone, Copy)]
+#[derive(Clone, Copy, Debug, PartialEq, Eq)]
 pub enum MatchAnswer {
     // it matches, and all were
     Matches(usize),
     // it does not: those up to and including the first that disagrees; none where the number names no rule
     Differs(usize),
-    Refused(Refusal),
-}
-
-// Why each rule does not apply to a configuration that is stuck; of one that is not, the step's rule (document 02, request 4).
-#[derive(Clone, Copy)]
-pub enum ReasonsAnswer {
-    // stuck: the list has two words for each rule
-    Listed,
-    // not stuck: the number of the rule that a step takes
-    NotStuck(usize),
-    Refused(Refusal),
 }
 
 // A run, with its count of steps; `Over` is refusal 6.
-#[derive(Clone, Copy)]
+#[derive(Clone, Copy, Debug, PartialEq, Eq)]
 pub enum RunAnswer {
     Stuck(usize),
     Spent(usize),
     Over(usize),
-    Refused(Refusal),
 }
 
-// A replay; over the limit is refusal 6.
-#[derive(Clone, Copy)]
+// A replay that is not refused; over the limit is refusal 6.
+#[derive(Clone, Copy, Debug, PartialEq, Eq)]
 pub enum ReplayAnswer {
     Reproduced,
     NotReproduced,
-    Refused(Refusal),
 }
 
 // The index of a table: a row of numbers for each of at most 256 rules (specs/Bridge/Place). A table's check fills it; every routine on checked words is lent it.

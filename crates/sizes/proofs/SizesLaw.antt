@@ -8,8 +8,8 @@ use native.Mathlib.Omega.{arith}
 use lib.Dec.{eqb, ltb, leb}
 use lib.IntN.{ℤ}
 use lib.ListN.{length}
-use borrow.Author.Tests.{lt-ltb, le-ltb, ne_eqb, le-leb, lt-leb, ltb-true, ltb-false, eqb-false}
-use Rattle.minuska.specs.declared.Check.TheVariants.{Good, Refused}
+use borrow.Author.Tests.{le-ltb, ne_eqb, le-leb, lt-leb, ltb-true, ltb-false, eqb-false}
+use Rattle.std.specs.Prelude.{Ok, Err}
 use Rattle.minuska.specs.declared.Refusal.{Refusal}
 use Rattle.minuska.specs.Term.{Term, node_count}
 use Rattle.minuska.specs.Rule.{Table, max_nodes, IsTable, IsConfiguration}
@@ -26,13 +26,13 @@ neither false b e = (refl, e)
 
 module _ (n most nodes limit : ℕ) (short : Bool) where
   -- ---- what holds where there is none, and the other way round
-  none_given : (l b s : Bool) → first_test (size_tests l b s) ≡ Good → (l ≡ false) × (b ≡ false) × (s ≡ false)
-  none_given true b s e = absurd (let z : ◌≡◌ {A = ℕ} 0 1 = cc in let f : ⊥ = omega arith in f)
-  none_given false true s e = absurd (let z : ◌≡◌ {A = ℕ} 0 1 = cc in let f : ⊥ = omega arith in f)
-  none_given false false true e = absurd (let z : ◌≡◌ {A = ℕ} 0 1 = cc in let f : ⊥ = omega arith in f)
+  none_given : (l b s : Bool) → first_test (size_tests l b s) ≡ Ok tt → (l ≡ false) × (b ≡ false) × (s ≡ false)
+  none_given true b s e = cc
+  none_given false true s e = cc
+  none_given false false true e = cc
   none_given false false false e = (refl, refl, refl)
 
-  pub sized : size_check n most nodes limit short ≡ Good → SizesHold n most nodes limit short
+  pub sized : size_check n most nodes limit short ≡ Ok tt → SizesHold n most nodes limit short
   unfolding size_check
   sized e =
       let p = none_given (ltb most n) (limit_outside limit nodes) short e in
@@ -41,21 +41,14 @@ module _ (n most nodes limit : ℕ) (short : Bool) where
       let z : limit ≡ 0 → ⊥ = eqb-false limit 0 r.0 in
       record { few = ltb-false most n p.0; positive = omega (arith, z); bounded = ltb-false max_nodes limit r.1; fits = ltb-false limit nodes q.1; roomy = p.2 }
 
-  pub sizes_good : SizesHold n most nodes limit short → size_check n most nodes limit short ≡ Good
+  pub sizes_good : SizesHold n most nodes limit short → size_check n most nodes limit short ≡ Ok tt
   unfolding size_check
   sizes_good s =
       let p = s.positive in
       let z : limit ≡ 0 → ⊥ = λ e. omega arith in
       rw (le-ltb most n s.few, ne_eqb limit 0 z, le-ltb max_nodes limit s.bounded, le-ltb limit nodes s.fits, s.roomy)
 
--- ---- words that do not hold nodes, or frames, without a product
-pub nodes_lacked : (words nodes : ℕ) → ltb (words / 2) nodes ≡ ltb words (2 * nodes)
-nodes_lacked words nodes = pick (ltb words (2 * nodes)) refl
-  where
-    pick : (b : Bool) → ltb words (2 * nodes) ≡ b → ltb (words / 2) nodes ≡ b
-    pick true e = lt-ltb (words / 2) nodes (let h = ltb-true words (2 * nodes) e in omega arith)
-    pick false e = le-ltb (words / 2) nodes (let h = ltb-false words (2 * nodes) e in omega arith)
-
+-- ---- words that do not hold frames, without a product
 module _ (words frames nodes : ℕ) (some : 0 < frames) where
   all_words : frames * (2 * nodes + 2) ≡ 2 * (suc nodes * frames)
   all_words = let e : 2 * nodes + 2 ≡ 2 * suc nodes = omega arith in rw (e, mul_comm frames (2 * suc nodes)) (mul_assoc 2 (suc nodes) frames)
@@ -75,20 +68,20 @@ module _ (words frames nodes : ℕ) (some : 0 < frames) where
 
 -- ---- tests in order, and what is answered behind them
 module _ {A : Type 0} (x : A) where
-  tested_refused : (ts : List Test) (r : Refusal) → first_test ts ≡ Refused r → tested ts x ≡ refused r
-  tested_refused [] r e = absurd (let z : ◌≡◌ {A = ℕ} 0 1 = cc in let f : ⊥ = omega arith in f)
+  tested_refused : (ts : List Test) (r : Refusal) → first_test ts ≡ Err r → tested ts x ≡ refused r
+  tested_refused [] r e = cc
   tested_refused (t ∷ ts) r e = pick t.given (λ h. tested_refused ts r h) e
     where
-      pick : (b : Bool) → (first_test ts ≡ Refused r → tested ts x ≡ refused r) → cond b (Refused t.refusal) (first_test ts) ≡ Refused r → cond b (refused t.refusal) (tested ts x) ≡ refused r
+      pick : (b : Bool) → (first_test ts ≡ Err r → tested ts x ≡ refused r) → cond b (Err t.refusal) (first_test ts) ≡ Err r → cond b (refused t.refusal) (tested ts x) ≡ refused r
       pick true rest h = let f : t.refusal ≡ r = cc in ap {B = Outcome A} refused f
       pick false rest h = rest h
 
-  tested_good : (ts : List Test) → first_test ts ≡ Good → tested ts x ≡ gives x
+  tested_good : (ts : List Test) → first_test ts ≡ Ok tt → tested ts x ≡ gives x
   tested_good [] e = refl
   tested_good (t ∷ ts) e = pick t.given (λ h. tested_good ts h) e
     where
-      pick : (b : Bool) → (first_test ts ≡ Good → tested ts x ≡ gives x) → cond b (Refused t.refusal) (first_test ts) ≡ Good → cond b (refused t.refusal) (tested ts x) ≡ gives x
-      pick true rest h = absurd (let z : ◌≡◌ {A = ℕ} 0 1 = cc in let f : ⊥ = omega arith in f)
+      pick : (b : Bool) → (first_test ts ≡ Ok tt → tested ts x ≡ gives x) → cond b (Err t.refusal) (first_test ts) ≡ Ok tt → cond b (refused t.refusal) (tested ts x) ≡ gives x
+      pick true rest h = cc
       pick false rest h = rest h
 
 -- ---- THE OUTCOME OF WORDS THAT ARE A TABLE AND A CONFIGURATION, by the check
@@ -106,7 +99,7 @@ module _ {A : Type 0} (ws cs : List ℤ) (t : Table) (g : Term) (p : IsTable ws 
   unfolding size_check
   check_is = let e : length cs / 2 ≡ node_count g = omega (arith, configuration_length cs g q) in rw e
 
-  pub sizes_refuse : (r : Refusal) → size_check n most (length cs / 2) limit short ≡ Refused r → outcome ≡ refused r
+  pub sizes_refuse : (r : Refusal) → size_check n most (length cs / 2) limit short ≡ Err r → outcome ≡ refused r
   sizes_refuse r e = outcome_is ∙ tested_refused (answer t g) tests r (sym check_is ∙ e)
 
   pub sizes_pass : SizesHold n most (length cs / 2) limit short → outcome ≡ gives (answer t g)

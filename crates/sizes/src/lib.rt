@@ -4,37 +4,37 @@
 ghost use Rattle.std.specs.Prelude.{◌≡◌, ◌+◌, ◌*◌, ◌<◌, ltb};
 ghost use Rattle.sizes.specs.Sizes.{limit_outside, size_check};
 
+use minuska::Refusal;
 use minuska::limits::MAX_NODES;
-use minuska::{Check, Refusal};
 
 // 4: whether a limit is out of range, or below the configuration's nodes.
 fn limit_outside(limit: usize, nodes: usize) -> bool
     ensures { result ≡ limit_outside limit nodes }
 {
-    if limit == 0 {
-        return true;
-    }
-    if MAX_NODES < limit {
-        return true;
-    }
-    limit < nodes
+    limit == 0 || MAX_NODES < limit || limit < nodes
 }
 
 // In order: a count above the most, a limit out of range or below the configuration's nodes, a slice that is short.
-pub fn check_sizes(count: usize, most: usize, nodes: usize, limit: usize, short: bool) -> Check
+#[tactic(auto, unfolding(crate::specs::Sizes::size_check))]
+pub fn check_sizes(
+    count: usize,
+    most: usize,
+    nodes: usize,
+    limit: usize,
+    short: bool,
+) -> Result<(), Refusal>
     ensures { result ≡ size_check count most nodes limit short }
 {
-    let outside = limit_outside(limit, nodes);
     if most < count {
-        return Check::Refused(Refusal::TooLong);
+        return Err(Refusal::TooLong);
     }
-    if outside {
-        return Check::Refused(Refusal::BadLimit);
+    if limit_outside(limit, nodes) {
+        return Err(Refusal::BadLimit);
     }
     if short {
-        return Check::Refused(Refusal::ShortBuffer);
+        return Err(Refusal::ShortBuffer);
     }
-    Check::Good
+    Ok(())
 }
 
 // Whether so many words do not hold so many nodes. Nothing is multiplied, so that any two numbers serve, a limit that is refused too.
@@ -45,6 +45,7 @@ pub fn lacks_nodes(words: usize, nodes: usize) -> bool
 }
 
 // Whether so many words do not hold frames of so many nodes and two words each.
+#[tactic(auto, using(crate::proofs::SizesLaw::frames_lacked))]
 pub fn lacks_frames(words: usize, frames: usize, nodes: usize) -> bool
     requires { 0 < frames }
     ensures { result ≡ ltb words (frames * (2 * nodes + 2)) }

@@ -1,4 +1,7 @@
 -- A rule alone: its verdict, from the number that `apply_coded` leaves.
+use Rattle.std.specs.Prelude.{Option as StdOption, Result}
+use Rattle.minuska.specs.declared.Refusal.{Refusal}
+use Rattle.minuska.specs.declared.Stepped.{Stepped}
 use mathlib.Core.Path.{◌≡◌, refl, ◌∙◌, ap, subst⁻¹}
 use mathlib.Core.Option.{Option, none, some}
 use mathlib.Core.List.{List}
@@ -8,7 +11,6 @@ use lib.IntN.{ℤ}
 use Rattle.minuska.specs.Term.{Term}
 use Rattle.minuska.specs.Obstacle.{Reason, left_differs, condition_fails}
 use Rattle.minuska.specs.Rule.{Rule}
-use Rattle.minuska.specs.declared.StepAnswer.{StepAnswer}
 use Rattle.minuska.specs.Computed.Reasons.{reason}
 use Rattle.minuska.proofs.Good.{good}
 use Rattle.minuska.proofs.StepLaw.{rule_okay}
@@ -37,11 +39,11 @@ module _ (ws cs : List ℤ) (n : ℕ) where
           let m = (good rule x).few in
           omega arith
 
-  pub verdict_by_lem : (out out' : List ℤ) (number : ℕ) (r : StepAnswer) (v : Verdict) → CodedAmongIs ws cs n 0 0 out out' 0 number r → DecodedIs number v → VerdictIs ws cs n v
+  pub verdict_by_lem : (out out' : List ℤ) (number : ℕ) (r : Result (StdOption Stepped) Refusal) (v : Verdict) → CodedAmongIs ws cs n 0 0 out out' 0 number r → DecodedIs number v → VerdictIs ws cs n v
   verdict_by_lem out out' number r v k d = record { is = λ rule g c. d.is (verdict_of rule g) (verdict_range rule g c) (k.alone refl refl rule g c) }
 
   -- of rules tried one after the other: what `apply_among` says, from the number that the first leaves if it is alone
-  pub among_by : (from to : ℕ) (out out' : List ℤ) (number misfit misfit' : ℕ) (r : StepAnswer) (v : Verdict) → CodedAmongIs ws cs n from to out out' 0 number r → DecodedIs number v → misfit' ≡ missed v → AmongIs ws cs n from to out out' misfit misfit' r
+  pub among_by : (from to : ℕ) (out out' : List ℤ) (number misfit misfit' : ℕ) (r : Result (StdOption Stepped) Refusal) (v : Verdict) → CodedAmongIs ws cs n from to out out' 0 number r → DecodedIs number v → misfit' ≡ missed v → AmongIs ws cs n from to out out' misfit misfit' r
   among_by from to out out' number misfit misfit' r v k d e =
       record {
         answer = k.answer;

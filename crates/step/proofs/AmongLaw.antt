@@ -1,4 +1,7 @@
 -- Rules tried one after the other: what each turn of `apply_among` says, and the two steps from it.
+use Rattle.std.specs.Prelude.{Option as StdOption, None, Result, Ok}
+use Rattle.minuska.specs.declared.Refusal.{Refusal}
+use Rattle.minuska.specs.declared.Stepped.{Stepped}
 use mathlib.Core.Path.{◌≡◌, refl, sym, ◌∙◌, ap, ap₂, subst}
 use mathlib.Core.Bool.{Bool, true, false, cond}
 use mathlib.Core.Option.{Option, none, some, none-ne-some, some-injective}
@@ -14,8 +17,6 @@ use Rattle.minuska.specs.Term.{Term, single}
 use Rattle.minuska.specs.Satisfaction.{Valuation}
 use Rattle.minuska.specs.Rule.{Rule, Table, IsTable, IsConfiguration}
 use Rattle.minuska.specs.Slice.{out_limit, step_answer, step_out}
-use Rattle.minuska.specs.declared.StepAnswer.{StepAnswer}
-use Rattle.minuska.specs.declared.StepAnswer.TheVariants as S
 use Rattle.minuska.specs.Answer.{Outcome, gives, StepResult, stuck}
 use Rattle.minuska.specs.Computed.Match.{try_match, unbound}
 use Rattle.minuska.specs.Computed.Value.{value, hold_all}
@@ -167,7 +168,7 @@ module _ (ws cs : List ℤ) (first from to : ℕ) where
       pub trying_on : (n : ℕ) → r < to → OrderedIs ws r n → Trying n (r + 1)
       trying_on n below o = let l = k.low in let m = s.low in record { low = omega arith; only = λ e. absurd (let z : ⊥ = omega arith in z); same = λ t g p q. behind t g p q ∙ ap (λ (l : List ℕ). first_of t l g) (positions_next t r to p b below o) }
 
-      pub none_applies : (out : List ℤ) (verdict verdict' : ℕ) → to ≤ r → Alone verdict verdict' → CodedAmongIs ws cs first from to out out verdict verdict' S.Stuck
+      pub none_applies : (out : List ℤ) (verdict verdict' : ℕ) → to ≤ r → Alone verdict verdict' → CodedAmongIs ws cs first from to out out verdict verdict' (Ok None)
       unfolding step_answer step_out
       none_applies out verdict verdict' past a =
           record { alone = a; answer = λ t g p q. ap step_answer (sym (nothing t g p q)); leaves = λ t g p q. ap (λ (z : Outcome StepResult). step_out z out) (sym (nothing t g p q)) }
@@ -176,7 +177,7 @@ module _ (ws cs : List ℤ) (first from to : ℕ) where
           nothing t g p q = ap (λ (z : Option (ℕ × Term)). gives (answered t (out_limit (length out)) z)) (behind t g p q ∙ ap (λ (l : List ℕ). first_of t l g) (positions_none t r to past))
 
     -- this one applies
-    module _ (a : Names ws rule) (starts ends : List ℕ) (v : Verdict) (j : JudgeIs ws cs rule starts ends v) (e : v ≡ Applies) (out out' : List ℤ) (verdict verdict' : ℕ) (r : StepAnswer) (w : Instantiated ws cs rule starts ends out out' r) (only : Alone verdict verdict') where
+    module _ (a : Names ws rule) (starts ends : List ℕ) (v : Verdict) (j : JudgeIs ws cs rule starts ends v) (e : v ≡ Applies) (out out' : List ℤ) (verdict verdict' : ℕ) (r : Result (StdOption Stepped) Refusal) (w : Instantiated ws cs rule starts ends out out' r) (only : Alone verdict verdict') where
       abbrev limit : ℕ
       limit = out_limit (length out)
 
@@ -202,7 +203,7 @@ module _ (ws cs : List ℤ) (first from to : ℕ) where
 
 -- ---- the step by one rule: that rule alone
 module _ (ws cs : List ℤ) (index : List ℕ) (out : List ℤ) (x : Indexed ws index) (y : Accepted cs) where
-  pub by_that_rule : (n : ℕ) (out' : List ℤ) (misfit misfit' : ℕ) (r : StepAnswer) → AmongIs ws cs n 0 0 out out' misfit misfit' r → StepByRuleContract ws cs n out out' r
+  pub by_that_rule : (n : ℕ) (out' : List ℤ) (misfit misfit' : ℕ) (r : Result (StdOption Stepped) Refusal) → AmongIs ws cs n 0 0 out out' misfit misfit' r → StepByRuleContract ws cs n out out' r
   by_that_rule n out' misfit misfit' r k =
       let t = x.table in
       let g = y.term in
@@ -214,7 +215,7 @@ module _ (ws cs : List ℤ) (index : List ℕ) (out : List ℤ) (x : Indexed ws 
       alone none = refl
       alone (some h) = refl
 
-  pub no_such_rule : (n count : ℕ) → RuleCountIs ws count → count ≤ n → StepByRuleContract ws cs n out out S.Stuck
+  pub no_such_rule : (n count : ℕ) → RuleCountIs ws count → count ≤ n → StepByRuleContract ws cs n out out (Ok None)
   unfolding step_answer step_out
   no_such_rule n count c h =
       let t = x.table in
@@ -222,7 +223,7 @@ module _ (ws cs : List ℤ) (index : List ℕ) (out : List ℤ) (x : Indexed ws 
       let e : count ≡ length t = c.is t x.is in
       let o : rule_outcome ws cs n (length out) ≡ gives stuck =
       outcome_by ws cs n out t g x.is y.is ∙ ap (λ (s : Option Term). gives (answered t (out_limit (length out)) (with_number n s))) (past_successor ws cs n t g x.is y.is (omega arith)) in
-      step_by_rule_contract ws cs n out out S.Stuck (ap step_answer (sym o)) (ap (λ (z : Outcome StepResult). step_out z out) (sym o))
+      step_by_rule_contract ws cs n out out (Ok None) (ap step_answer (sym o)) (ap (λ (z : Outcome StepResult). step_out z out) (sym o))
 
   pub below_names : (n count : ℕ) → RuleCountIs ws count → n < count → Names ws n
   below_names n count c h =
@@ -247,15 +248,15 @@ module _ (ws cs : List ℤ) (index : List ℕ) (out : List ℤ) (x : Indexed ws 
         (ap (λ (l : List ℕ). first_of t l g) (sym (positions_all t count (c.is t x.is))) ∙ sought ws cs root 0 count first s every_position (record { is = λ h. key }) t g x.is y.is)))
 
     module _ (root first : ℕ) (key : RootKeyIs cs root) (s : SeekIs ws root 0 count first) where
-      pub none_at_all : count ≤ first → StepContract ws cs out out S.Stuck
+      pub none_at_all : count ≤ first → StepContract ws cs out out (Ok None)
       unfolding step_answer step_out
       none_at_all past =
           let t = x.table in
           let o : step_outcome ws cs (length out) ≡ gives stuck =
           outcome_first root first key s ∙ ap (λ (l : List ℕ). gives (answered t (out_limit (length out)) (first_of t l y.term))) (positions_none t first count past) in
-          step_contract ws cs out out S.Stuck (ap step_answer (sym o)) (ap (λ (z : Outcome StepResult). step_out z out) (sym o))
+          step_contract ws cs out out (Ok None) (ap step_answer (sym o)) (ap (λ (z : Outcome StepResult). step_out z out) (sym o))
 
-      pub the_earliest : (n : ℕ) (out' : List ℤ) (misfit misfit' : ℕ) (r : StepAnswer) → first < count → OrderedIs ws first n → AmongIs ws cs n (first + 1) count out out' misfit misfit' r → StepContract ws cs out out' r
+      pub the_earliest : (n : ℕ) (out' : List ℤ) (misfit misfit' : ℕ) (r : Result (StdOption Stepped) Refusal) → first < count → OrderedIs ws first n → AmongIs ws cs n (first + 1) count out out' misfit misfit' r → StepContract ws cs out out' r
       the_earliest n out' misfit misfit' r below o k =
           let t = x.table in
           let g = y.term in

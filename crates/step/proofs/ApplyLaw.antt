@@ -1,4 +1,5 @@
 -- One rule at one configuration, put together: its outcome, its verdict and its successor.
+use Rattle.std.specs.Prelude.{Some, Ok, Err}
 use mathlib.Core.Path.{◌≡◌, refl, sym, ◌∙◌, ap}
 use mathlib.Core.Bool.{Bool, true, false, cond}
 use mathlib.Core.Logic.{◌↔◌}
@@ -16,7 +17,6 @@ use Rattle.minuska.specs.Word.{encode}
 use Rattle.minuska.specs.Satisfaction.{Valuation}
 use Rattle.minuska.specs.Rule.{Rule, Table, IsTable, IsConfiguration}
 use Rattle.minuska.specs.Slice.{out_limit, step_answer, step_out, write}
-use Rattle.minuska.specs.declared.StepAnswer.TheVariants as S
 use Rattle.minuska.specs.declared.Refusal.TheVariants.{OverLimit}
 use Rattle.minuska.specs.Answer.{Outcome, gives, StepResult, stepped, too_large}
 use Rattle.minuska.specs.Computed.Match.{try_match, unbound}
@@ -50,11 +50,11 @@ module _ (limit : ℕ) (h : Term) (b : Bool) (e : b ≡ leb (length (encode (sin
   words_fit t = omega (arith, term_length h, leb-true (length (encode (single h))) (2 * limit) (sym e ∙ t))
 
 module _ (limit n a : ℕ) (h : Term) (out : List ℤ) where
-  pub as_large : limit < node_count h → (S.Refused OverLimit ≡ instantiated_as limit n a h) × (out ≡ instantiated_out limit h out)
+  pub as_large : limit < node_count h → (Err OverLimit ≡ instantiated_as limit n a h) × (out ≡ instantiated_out limit h out)
   unfolding instantiated_as instantiated_out
   as_large x = (rw (lt-leb (node_count h) limit x), rw (lt-leb (node_count h) limit x))
 
-  pub as_stepped : node_count h ≤ limit → (S.Stepped n a (node_count h) ≡ instantiated_as limit n a h) × (write (encode (single h)) out ≡ instantiated_out limit h out)
+  pub as_stepped : node_count h ≤ limit → (Ok (Some (record { rule = n; action = a; nodes = (node_count h) })) ≡ instantiated_as limit n a h) × (write (encode (single h)) out ≡ instantiated_out limit h out)
   unfolding instantiated_as instantiated_out
   as_stepped x = (rw (le-leb (node_count h) limit x), rw (le-leb (node_count h) limit x))
 
@@ -72,7 +72,7 @@ module _ (limit n a : ℕ) (h : Term) (out : List ℤ) where
   unfolding instantiated_as step_answer
   instantiated_answer = pick (leb (node_count h) limit)
     where
-      pick : (b : Bool) → cond b (S.Stepped n a (node_count h)) (S.Refused OverLimit) ≡ step_answer (gives (cond b (stepped n a h) too_large))
+      pick : (b : Bool) → cond b (Ok (Some (record { rule = n; action = a; nodes = (node_count h) }))) (Err OverLimit) ≡ step_answer (gives (cond b (stepped n a h) too_large))
       pick true = refl
       pick false = refl
 

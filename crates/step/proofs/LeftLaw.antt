@@ -1,4 +1,8 @@
 -- A rule's left alone: what `misfit` says of it, as an answer.
+use Rattle.minuska.specs.declared.MatchAnswer.{MatchAnswer}
+use Rattle.std.specs.Prelude.{Option as StdOption, Result, Ok}
+use Rattle.minuska.specs.declared.Refusal.{Refusal}
+use Rattle.minuska.specs.declared.Stepped.{Stepped}
 use mathlib.Core.Path.{◌≡◌, refl, sym, ◌∙◌, ap}
 use mathlib.Core.Option.{Option}
 use mathlib.Core.List.{List}
@@ -11,7 +15,6 @@ use Rattle.minuska.specs.Satisfaction.{SideCondition}
 use Rattle.minuska.specs.Rule.{Rule}
 use Rattle.minuska.specs.Answer.{Outcome, gives, MatchResult, matched, misfit}
 use Rattle.minuska.specs.Slice.{match_answer}
-use Rattle.minuska.specs.declared.StepAnswer.{StepAnswer}
 use Rattle.minuska.specs.declared.MatchAnswer.TheVariants as M
 use Rattle.minuska.specs.Computed.Compare.{Comparison, agreed, apart, comparison, nodes_compared, match_numbered, match_rule}
 use Rattle.minuska.specs.Computed.Outcome.{match_outcome}
@@ -51,14 +54,14 @@ module _ (ws cs : List ℤ) (index : List ℕ) (n : ℕ) (x : Indexed ws index) 
       (on_words_lem ws cs x.table y.term x.is y.is (λ u h. gives (match_rule u n h)) ∙
       ap {B = Outcome MatchResult} gives (match_rule_is x.table n y.term))
 
-  pub no_left : (count : ℕ) → RuleCountIs ws count → count ≤ n → MatchRuleContract ws cs n (M.Differs 0)
+  pub no_left : (count : ℕ) → RuleCountIs ws count → count ≤ n → MatchRuleContract ws cs n (Ok (M.Differs 0))
   unfolding match_answer
   no_left count c h =
       let e : count ≡ length x.table = c.is x.table x.is in
-      match_rule_contract ws cs n (M.Differs 0)
+      match_rule_contract ws cs n (Ok (M.Differs 0))
       (ap match_answer (sym (outcome_by ∙ ap (λ (o : Option Rule). gives (match_numbered o y.term)) (past_none x.table n (omega arith)))))
 
-  module _ (a : Names ws n) (out out' : List ℤ) (m : ℕ) (r : StepAnswer) (k : AmongIs ws cs n 0 0 out out' 0 m r) where
+  module _ (a : Names ws n) (out out' : List ℤ) (m : ℕ) (r : Result (StdOption Stepped) Refusal) (k : AmongIs ws cs n 0 0 out out' 0 m r) where
     abbrev rule : Rule
     rule = a.rule
 
@@ -69,15 +72,18 @@ module _ (ws cs : List ℤ) (index : List ℕ) (n : ℕ) (x : Indexed ws index) 
     left_missed : m ≡ missed (verdict_of rule y.term)
     left_missed = k.alone refl refl rule y.term (candidate ws cs n a x.table y.term x.is y.is)
 
-    pub left_differs_lem : (m ≡ 0 → ⊥) → MatchRuleContract ws cs n (M.Differs m)
+    pub left_differs_lem : (m ≡ 0 → ⊥) → MatchRuleContract ws cs n (Ok (M.Differs m))
     unfolding match_answer
     left_differs_lem f =
-        match_rule_contract ws cs n (M.Differs m)
+        match_rule_contract ws cs n (Ok (M.Differs m))
         (ap match_answer (sym (by_left (misfit m) (missed_some rule.left rule.conditions m (comparison rule.left y.term) left_missed f))))
 
     -- by the number that is answered: the left's nodes, from its words
-    pub left_matches : (from to k : ℕ) → PartIs left_words ws n from to → m ≡ 0 → (to ≡ from + 2 * node_count rule.left → k ≡ node_count rule.left) → MatchRuleContract ws cs n (M.Matches k)
+    abbrev ok : MatchAnswer → Result MatchAnswer Refusal
+    ok x = Ok x
+
+    pub left_matches : (from to k : ℕ) → PartIs left_words ws n from to → m ≡ 0 → (to ≡ from + 2 * node_count rule.left → k ≡ node_count rule.left) → MatchRuleContract ws cs n (Ok (M.Matches k))
     unfolding match_answer
     left_matches from to k p z q =
-        match_rule_contract ws cs n (M.Matches k)
-        (ap M.Matches (q (omega (arith, p.ends a.table rule a.is a.numbered, term_length rule.left))) ∙ ap match_answer (sym (by_left (matched (node_count rule.left)) (missed_none rule.left rule.conditions m (comparison rule.left y.term) left_missed z))))
+        match_rule_contract ws cs n (Ok (M.Matches k))
+        (ap (λ (j : ℕ). ok (M.Matches j)) (q (omega (arith, p.ends a.table rule a.is a.numbered, term_length rule.left))) ∙ ap match_answer (sym (by_left (matched (node_count rule.left)) (missed_none rule.left rule.conditions m (comparison rule.left y.term) left_missed z))))

@@ -1,4 +1,5 @@
 -- Why no rule applies, as an answer: the ways out of `list_reasons`.
+use Rattle.std.specs.Prelude.{Some, None, Ok, Err}
 use mathlib.Core.Path.{◌≡◌, refl, sym, ◌∙◌, ap, subst}
 use mathlib.Core.Bool.{Bool, true, false, cond}
 use mathlib.Core.Option.{Option, none, some}
@@ -15,7 +16,6 @@ use Rattle.minuska.specs.Rule.{Rule, Table}
 use Rattle.minuska.specs.Answer.{Outcome, refused, gives, ReasonsResult, listed, not_stuck}
 use Rattle.minuska.specs.declared.Refusal.TheVariants.{ShortBuffer}
 use Rattle.minuska.specs.Slice.{reasons_answer, reasons_list}
-use Rattle.minuska.specs.declared.ReasonsAnswer.TheVariants as Q
 use Rattle.minuska.specs.Computed.Step.{earliest}
 use Rattle.minuska.specs.Computed.Reasons.{reasons_of, listed_unless, reasons}
 use Rattle.minuska.specs.Computed.Outcome.{tested, list_tests, reasons_outcome}
@@ -62,23 +62,23 @@ module _ (ws cs : List ℤ) (index : List ℕ) (list : List ℤ) (x : Indexed ws
       (on_words_lem ws cs t g x.is y.is (λ u h. tested (list_tests (length list) u) (reasons u h)) ∙
       (ap (λ (z : Bool). cond z (refused ShortBuffer) (gives (reasons t g))) e ∙ ap (λ (z : ReasonsResult). cond b (refused ShortBuffer) (gives z)) (reasons_is t g)))
 
-  pub short_list : length list < 2 * count → ReasonsContract ws cs list list (Q.Refused ShortBuffer)
+  pub short_list : length list < 2 * count → ReasonsContract ws cs list list (Err ShortBuffer)
   unfolding reasons_answer reasons_list
   short_list h =
       let e = c.is t x.is in
       let o : reasons_outcome ws cs (length list) ≡ refused ShortBuffer = outcome_by true (lt-ltb (length list) (2 * length t) (omega arith)) in
-      reasons_contract ws cs list list (Q.Refused ShortBuffer) (ap reasons_answer (sym o)) (ap (λ (z : Outcome ReasonsResult). reasons_list z list) (sym o))
+      reasons_contract ws cs list list (Err ShortBuffer) (ap reasons_answer (sym o)) (ap (λ (z : Outcome ReasonsResult). reasons_list z list) (sym o))
 
   module _ (room : 2 * count ≤ length list) where
     outcome_found : reasons_outcome ws cs (length list) ≡ gives (listed_unless (earliest t g) (reasons_of t g))
     outcome_found = let e = c.is t x.is in outcome_by false (le-ltb (length list) (2 * length t) (omega arith))
 
     module _ (verdicts : List ℕ) (r : Earliest) (j : JudgeAllIs ws cs verdicts r) where
-      pub not_stuck_lem : (n : ℕ) → r ≡ E.Rule n → ReasonsContract ws cs list list (Q.NotStuck n)
+      pub not_stuck_lem : (n : ℕ) → r ≡ E.Rule n → ReasonsContract ws cs list list (Ok (Some n))
       unfolding reasons_answer reasons_list
       not_stuck_lem n e =
           let o : reasons_outcome ws cs (length list) ≡ gives (not_stuck n) = outcome_found ∙ ap {B = Outcome ReasonsResult} gives (found_rule n (earliest t g) (reasons_of t g) (sym e ∙ j.answer t g x.is y.is)) in
-          reasons_contract ws cs list list (Q.NotStuck n) (ap reasons_answer (sym o)) (ap (λ (z : Outcome ReasonsResult). reasons_list z list) (sym o))
+          reasons_contract ws cs list list (Ok (Some n)) (ap reasons_answer (sym o)) (ap (λ (z : Outcome ReasonsResult). reasons_list z list) (sym o))
 
       -- stuck: every verdict is an obstacle's
       module _ (e : r ≡ E.Nothing) where
@@ -105,8 +105,8 @@ module _ (ws cs : List ℤ) (index : List ℕ) (list : List ℤ) (x : Indexed ws
                 let d : verdict_of rule g ≡ verdict_for (some o) = verdict_is rule g ∙ ap verdict_for (sym (reasons_at g t all n rule p) ∙ q) in
                 (j.leaves e n rule g k ∙ ap code d, subst VerdictInRange d (verdict_range ws cs n rule g k))
 
-        pub all_listed : (list' : List ℤ) → PutAllIs verdicts count list list' → ReasonsContract ws cs list list' Q.Listed
+        pub all_listed : (list' : List ℤ) → PutAllIs verdicts count list list' → ReasonsContract ws cs list list' (Ok None)
         unfolding reasons_answer reasons_list some_coded
         all_listed list' w =
             let o : reasons_outcome ws cs (length list) ≡ gives (listed (reasons_of t g)) = outcome_found ∙ ap (λ (p : Option (ℕ × Term)). gives (listed_unless p (reasons_of t g))) none_found in
-            reasons_contract ws cs list list' Q.Listed (ap reasons_answer (sym o)) (w.is (reasons_of t g) some_coded.coded ∙ ap (λ (z : Outcome ReasonsResult). reasons_list z list) (sym o))
+            reasons_contract ws cs list list' (Ok None) (ap reasons_answer (sym o)) (w.is (reasons_of t g) some_coded.coded ∙ ap (λ (z : Outcome ReasonsResult). reasons_list z list) (sym o))

@@ -1,4 +1,5 @@
 -- What each way out of `write_within` and of `judge` says, over plain variables.
+use Rattle.std.specs.Prelude.{Some, Ok, Err}
 use mathlib.Core.Path.{◌≡◌, sym, ◌∙◌, ap, subst}
 use mathlib.Core.Bool.{Bool, true, false}
 use mathlib.Core.Logic.{◌↔◌}
@@ -13,7 +14,6 @@ use Rattle.minuska.specs.Term.{Term, single, node_count}
 use Rattle.minuska.specs.Satisfaction.{Valuation, SideCondition}
 use Rattle.minuska.specs.Rule.{Rule, max_nodes}
 use Rattle.minuska.specs.Slice.{out_limit}
-use Rattle.minuska.specs.declared.StepAnswer.TheVariants as S
 use Rattle.minuska.specs.declared.Refusal.TheVariants.{OverLimit}
 use Rattle.minuska.specs.Computed.Match.{try_match, unbound}
 use Rattle.minuska.specs.Computed.Value.{value}
@@ -39,7 +39,7 @@ module _ (ws cs : List ℤ) (n : ℕ) (starts ends : List ℕ) (out : List ℤ) 
   abbrev limit : ℕ
   limit = out_limit (length out)
 
-  pub way_large : b ≡ false → Instantiated ws cs n starts ends out out (S.Refused OverLimit)
+  pub way_large : b ≡ false → Instantiated ws cs n starts ends out out (Err OverLimit)
   way_large t =
       record { answer = λ rule g ρ h x v. (as_large limit n rule.action h out (too_large_lem limit h b (m.is rule g ρ h x v) t)).0; leaves = λ rule g ρ h x v. (as_large limit n rule.action h out (too_large_lem limit h b (m.is rule g ρ h x v) t)).1 }
 
@@ -50,7 +50,7 @@ module _ (ws cs : List ℤ) (n : ℕ) (starts ends : List ℕ) (out : List ℤ) 
     pub fits_out : WordsFit ws cs n starts ends (length out)
     fits_out = record { fit = λ rule g ρ h x v. omega (arith, term_length h, limit_fits (length out), within rule g ρ h x v) }
 
-    pub way_stepped : (k a : ℕ) (out' : List ℤ) → ActionIs ws n a → WriteIs ws cs n starts ends out out' k → Instantiated ws cs n starts ends out out' (S.Stepped n a (k / 2))
+    pub way_stepped : (k a : ℕ) (out' : List ℤ) → ActionIs ws n a → WriteIs ws cs n starts ends out out' k → Instantiated ws cs n starts ends out out' (Ok (Some (record { rule = n; action = a; nodes = (k / 2) })))
     way_stepped k a out' i w =
         record { answer = λ rule g ρ h x v. let p : k / 2 ≡ node_count h = omega (arith, w.many rule g ρ h x v, term_length h) in let q : a ≡ rule.action = i.is x.at.table rule x.at.is x.at.numbered in rw (p, q) (as_stepped limit n rule.action h out (within rule g ρ h x v)).0; leaves = λ rule g ρ h x v. w.is rule g ρ h x v ∙ (as_stepped limit n rule.action h out (within rule g ρ h x v)).1 }
 

@@ -1,9 +1,11 @@
 -- Rules tried one after the other, over checked words.
+use Rattle.std.specs.Prelude.{Option, Result}
+use Rattle.minuska.specs.declared.Refusal.{Refusal}
+use Rattle.minuska.specs.declared.Stepped.{Stepped}
 use Rattle.std.specs.Prelude.{◌≡◌, List, ◌∷◌, ℕ, ◌-◌, ◌<◌, ℤ, length, take, drop}
 use Rattle.minuska.specs.Term.{Term}
 use Rattle.minuska.specs.Rule.{Rule, Table, IsTable, IsConfiguration}
 use Rattle.minuska.specs.Slice.{out_limit, step_answer, step_out}
-use Rattle.minuska.specs.declared.StepAnswer.{StepAnswer}
 use Rattle.minuska.specs.Answer.{gives}
 use Rattle.minuska.specs.Computed.Step.{order, first_of, answered}
 use Rattle.minuska.specs.Bridge.Place.{RootKeyIs}
@@ -19,13 +21,13 @@ pub record KeyFor (cs : List ℤ) (to root : ℕ) : Type 0 where
   pub is : 0 < to → RootKeyIs cs root
 
 -- the first that applies of a rule and of those at some positions, as the step answers it; of a rule alone, how far its left was compared if it disagrees
-pub record AmongIs (ws cs : List ℤ) (first from to : ℕ) (out out' : List ℤ) (misfit misfit' : ℕ) (r : StepAnswer) : Type 0 where
+pub record AmongIs (ws cs : List ℤ) (first from to : ℕ) (out out' : List ℤ) (misfit misfit' : ℕ) (r : Result (Option Stepped) Refusal) : Type 0 where
   pub answer : (t : Table) (g : Term) → IsTable ws t → IsConfiguration cs g → r ≡ step_answer (gives (answered t (out_limit (length out)) (first_of t (first ∷ positions from to t) g)))
   pub leaves : (t : Table) (g : Term) → IsTable ws t → IsConfiguration cs g → out' ≡ step_out (gives (answered t (out_limit (length out)) (first_of t (first ∷ positions from to t) g))) out
   pub alone : from ≡ to → misfit ≡ 0 → (rule : Rule) (g : Term) → Candidate ws cs first rule g → misfit' ≡ missed (verdict_of rule g)
 
 -- the same, with the verdict on a rule alone as a number
-pub record CodedAmongIs (ws cs : List ℤ) (first from to : ℕ) (out out' : List ℤ) (verdict verdict' : ℕ) (r : StepAnswer) : Type 0 where
+pub record CodedAmongIs (ws cs : List ℤ) (first from to : ℕ) (out out' : List ℤ) (verdict verdict' : ℕ) (r : Result (Option Stepped) Refusal) : Type 0 where
   pub answer : (t : Table) (g : Term) → IsTable ws t → IsConfiguration cs g → r ≡ step_answer (gives (answered t (out_limit (length out)) (first_of t (first ∷ positions from to t) g)))
   pub leaves : (t : Table) (g : Term) → IsTable ws t → IsConfiguration cs g → out' ≡ step_out (gives (answered t (out_limit (length out)) (first_of t (first ∷ positions from to t) g))) out
   pub alone : from ≡ to → verdict ≡ 0 → (rule : Rule) (g : Term) → Candidate ws cs first rule g → verdict' ≡ code (verdict_of rule g)

@@ -1,4 +1,7 @@
 -- One rule at one configuration, over checked words. Each statement is about every rule and term that the words can be: there is only one of each.
+use Rattle.std.specs.Prelude.{Option, Some, Result, Ok, Err}
+use Rattle.minuska.specs.declared.Refusal.{Refusal}
+use Rattle.minuska.specs.declared.Stepped.{Stepped}
 use Rattle.std.specs.Prelude.{◌≡◌, Bool, cond, ◌↔◌, List, ℕ, suc, ◌≤◌, ℤ, leb, length}
 use Rattle.std.proofs.Math.Option.{some}
 use Rattle.std.proofs.Math.ListN.{get_elem?}
@@ -7,8 +10,6 @@ use Rattle.minuska.specs.Word.{encode}
 use Rattle.minuska.specs.Satisfaction.{Valuation, SideCondition}
 use Rattle.minuska.specs.Rule.{Rule, Table, IsTable, IsConfiguration}
 use Rattle.minuska.specs.Slice.{write, out_limit}
-use Rattle.minuska.specs.declared.StepAnswer.{StepAnswer}
-use Rattle.minuska.specs.declared.StepAnswer.TheVariants as S
 use Rattle.minuska.specs.declared.Refusal.TheVariants.{OverLimit}
 use Rattle.minuska.specs.Computed.Match.{try_match, unbound}
 use Rattle.minuska.specs.Computed.Compare.{Comparison, agreed, apart, comparison}
@@ -89,12 +90,12 @@ pub record WriteIs (ws cs : List ℤ) (n : ℕ) (starts ends : List ℕ) (out ou
   pub many : (rule : Rule) (g : Term) (ρ : Valuation) (h : Term) → Matched ws cs n starts ends rule g ρ → value ρ rule.right ≡ some h → r ≡ length (encode (single h))
 
 -- the successor that the right gives, in the out slice and in the answer
-unfoldable pub instantiated_as : ℕ → ℕ → ℕ → Term → StepAnswer
-instantiated_as limit n a h = cond (leb (node_count h) limit) (S.Stepped n a (node_count h)) (S.Refused OverLimit)
+unfoldable pub instantiated_as : ℕ → ℕ → ℕ → Term → Result (Option Stepped) Refusal
+instantiated_as limit n a h = cond (leb (node_count h) limit) (Ok (Some (record { rule = n; action = a; nodes = (node_count h) }))) (Err OverLimit)
 
 unfoldable pub instantiated_out : ℕ → Term → List ℤ → List ℤ
 instantiated_out limit h out = cond (leb (node_count h) limit) (write (encode (single h)) out) out
 
-pub record Instantiated (ws cs : List ℤ) (n : ℕ) (starts ends : List ℕ) (out out' : List ℤ) (r : StepAnswer) : Type 0 where
+pub record Instantiated (ws cs : List ℤ) (n : ℕ) (starts ends : List ℕ) (out out' : List ℤ) (r : Result (Option Stepped) Refusal) : Type 0 where
   pub answer : (rule : Rule) (g : Term) (ρ : Valuation) (h : Term) → Matched ws cs n starts ends rule g ρ → value ρ rule.right ≡ some h → r ≡ instantiated_as (out_limit (length out)) n rule.action h
   pub leaves : (rule : Rule) (g : Term) (ρ : Valuation) (h : Term) → Matched ws cs n starts ends rule g ρ → value ρ rule.right ≡ some h → out' ≡ instantiated_out (out_limit (length out)) h out

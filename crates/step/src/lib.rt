@@ -19,7 +19,7 @@ ghost use Rattle.step.specs.Among.{KeyFor, AmongIs, CodedAmongIs};
 use crate::reason::Earliest;
 use crate::rule::Verdict;
 use minuska::limits::{MAX_CONFIGURATION_WORDS, MAX_NODES, MAX_RULES};
-use minuska::{Check, INDEX_LEN, Index, MatchAnswer, ReasonsAnswer, Refusal, StepAnswer};
+use minuska::{INDEX_LEN, Index, MatchAnswer, Refusal, Stepped};
 use term::{Places, VARIABLES};
 
 // What is said of one rule, of checked words: that it applies, or why not. It is tried as a step tries it, with no room for a successor: so the walk over a left
@@ -35,7 +35,7 @@ fn judge_alone<'a>(
 {
     let mut none = [0i64; 1];
     let mut code = 0;
-    apply_coded(
+    let _ = apply_coded(
         table,
         index,
         configuration,
@@ -56,17 +56,17 @@ pub fn compare_rule<'a>(
     index: &Index,
     configuration: &'a [i64],
     rule: usize,
-) -> MatchAnswer
+) -> Result<MatchAnswer, Refusal>
     requires { Indexed table.now index.now × Accepted configuration.now }
     ensures { MatchRuleContract table.now configuration.now rule result }
 {
     let count = table::rule_count(table, index);
     if count <= rule {
-        return MatchAnswer::Differs(0);
+        return Ok(MatchAnswer::Differs(0));
     }
     let mut none = [0i64; 1];
     let mut misfit = 0;
-    apply_among(
+    let _ = apply_among(
         table,
         index,
         configuration,
@@ -78,10 +78,10 @@ pub fn compare_rule<'a>(
         &mut misfit,
     );
     if misfit != 0 {
-        return MatchAnswer::Differs(misfit);
+        return Ok(MatchAnswer::Differs(misfit));
     }
     let left = table::index::left(table, index, rule);
-    MatchAnswer::Matches((left.to - left.from) / 2)
+    Ok(MatchAnswer::Matches((left.to - left.from) / 2))
 }
 
 // Why each rule does not apply, of checked words, if none does.
@@ -90,20 +90,20 @@ pub fn list_reasons<'a>(
     index: &Index,
     configuration: &'a [i64],
     list: &mut [i64],
-) -> ReasonsAnswer
+) -> Result<Option<usize>, Refusal>
     requires { Indexed table.now index.now × Accepted configuration.now }
     ensures { ReasonsContract table.now configuration.now list.old list.new result }
 {
     let count = table::rule_count(table, index);
     if list.len() < 2 * count {
-        return ReasonsAnswer::Refused(Refusal::ShortBuffer);
+        return Err(Refusal::ShortBuffer);
     }
     let mut verdicts = [1usize; MAX_RULES];
     match reason::judge_all(table, index, configuration, count, &mut verdicts) {
-        Earliest::Rule(rule) => ReasonsAnswer::NotStuck(rule),
+        Earliest::Rule(rule) => Ok(Some(rule)),
         Earliest::Nothing => {
             reason::put_all(&verdicts, count, list);
-            ReasonsAnswer::Listed
+            Ok(None)
         }
     }
 }
@@ -115,12 +115,12 @@ pub fn apply_rule<'a>(
     configuration: &'a [i64],
     rule: usize,
     out: &mut [i64],
-) -> StepAnswer
+) -> Result<Option<Stepped>, Refusal>
     requires { Indexed table.now index.now × Accepted configuration.now }
     ensures { StepByRuleContract table.now configuration.now rule out.old out.new result }
 {
     if table::rule_count(table, index) <= rule {
-        return StepAnswer::Stuck;
+        return Ok(None);
     }
     let mut misfit = 0;
     apply_among(table, index, configuration, rule, 0, 0, 0, out, &mut misfit)
@@ -132,7 +132,7 @@ pub fn apply_earliest<'a>(
     index: &Index,
     configuration: &'a [i64],
     out: &mut [i64],
-) -> StepAnswer
+) -> Result<Option<Stepped>, Refusal>
     requires { Indexed table.now index.now × Accepted configuration.now }
     ensures { StepContract table.now configuration.now out.old out.new result }
 {
@@ -140,7 +140,7 @@ pub fn apply_earliest<'a>(
     let count = table::rule_count(table, index);
     let first = table::key::seek(table, index, root, 0, count);
     if count <= first {
-        return StepAnswer::Stuck;
+        return Ok(None);
     }
     let rule = table::ordered(table, index, first);
     let mut misfit = 0;
@@ -169,7 +169,7 @@ fn apply_among<'a>(
     root: usize,
     out: &mut [i64],
     misfit: &mut usize,
-) -> StepAnswer
+) -> Result<Option<Stepped>, Refusal>
     requires indexed { Indexed table.now index.now × Accepted configuration.now }
     requires names { Names table.now first × Positions table.now to × (from ≤ to) × KeyFor configuration.now to root }
     ensures { AmongIs table.now configuration.now first from to out.old out.new misfit.old misfit.new result }
@@ -202,7 +202,7 @@ fn apply_coded<'a>(
     root: usize,
     out: &mut [i64],
     verdict: &mut usize,
-) -> StepAnswer
+) -> Result<Option<Stepped>, Refusal>
     requires indexed { Indexed table.now index.now × Accepted configuration.now }
     requires names { Names table.now first × Positions table.now to × (from ≤ to) × KeyFor configuration.now to root }
     ensures { CodedAmongIs table.now configuration.now first from to out.old out.new verdict.old verdict.new result }
@@ -219,7 +219,7 @@ fn apply_coded<'a>(
         *verdict = rule::coded(found);
         i = table::key::seek(table, index, root, i, to);
         if to <= i {
-            return StepAnswer::Stuck;
+            return Ok(None);
         }
         rule = table::ordered(table, index, i);
         i += 1;
@@ -235,20 +235,20 @@ fn write_within<'a>(
     starts: &Places,
     ends: &Places,
     out: &mut [i64],
-) -> StepAnswer
+) -> Result<Option<Stepped>, Refusal>
     requires { Indexed table.now index.now × SomeMatched table.now configuration.now rule starts.now ends.now }
     ensures { Instantiated table.now configuration.now rule starts.now ends.now out.old out.new result }
 {
     let room = 2 * out_limit(out.len());
     if !rule::fits(table, index, rule, configuration, starts, ends, room) {
-        return StepAnswer::Refused(Refusal::OverLimit);
+        return Err(Refusal::OverLimit);
     }
     let n = rule::write_successor(table, index, rule, configuration, starts, ends, out);
-    StepAnswer::Stepped {
+    Ok(Some(Stepped {
         rule,
         action: table::index::action(table, index, rule),
         nodes: n / 2,
-    }
+    }))
 }
 
 // "The ceiling is half the out slice's words, rounded down, at most 32,768 nodes."
@@ -263,35 +263,37 @@ fn out_limit(words: usize) -> usize
 }
 
 // Refusals 1 and 2, in order; where there is none, the index is the table's.
-pub fn accept(table: &[i64], configuration: &[i64], index: &mut Index) -> Check
+pub fn accept(table: &[i64], configuration: &[i64], index: &mut Index) -> Result<(), Refusal>
     ensures { AcceptContract table.now configuration.now index.old index.new result }
 {
-    match table::index_table(table, index) {
-        Check::Good => term::check_configuration(configuration),
-        Check::Refused(r) => Check::Refused(r),
-    }
+    table::index_table(table, index)?;
+    term::check_configuration(configuration)
 }
 
 // Whether a rule's left matches the configuration, conditions aside, and how many of its nodes were compared. A number that names no rule does not match.
-pub fn match_rule<'a>(table: &'a [i64], configuration: &'a [i64], rule: usize) -> MatchAnswer
+pub fn match_rule<'a>(
+    table: &'a [i64],
+    configuration: &'a [i64],
+    rule: usize,
+) -> Result<MatchAnswer, Refusal>
     ensures { MatchRuleContract table.now configuration.now rule result }
 {
     let mut index = [0u16; INDEX_LEN];
-    match accept(table, configuration, &mut index) {
-        Check::Good => compare_rule(table, &index, configuration, rule),
-        Check::Refused(r) => MatchAnswer::Refused(r),
-    }
+    accept(table, configuration, &mut index)?;
+    compare_rule(table, &index, configuration, rule)
 }
 
 // Why each rule does not apply: two words for each in the list, if the configuration is stuck; else the rule that a step takes, and the list keeps.
-pub fn reasons<'a>(table: &'a [i64], configuration: &'a [i64], list: &mut [i64]) -> ReasonsAnswer
+pub fn reasons<'a>(
+    table: &'a [i64],
+    configuration: &'a [i64],
+    list: &mut [i64],
+) -> Result<Option<usize>, Refusal>
     ensures { ReasonsContract table.now configuration.now list.old list.new result }
 {
     let mut index = [0u16; INDEX_LEN];
-    match accept(table, configuration, &mut index) {
-        Check::Good => list_reasons(table, &index, configuration, list),
-        Check::Refused(r) => ReasonsAnswer::Refused(r),
-    }
+    accept(table, configuration, &mut index)?;
+    list_reasons(table, &index, configuration, list)
 }
 
 // The step by one given rule: it does not apply, or its successor is written, or that is too large. A number that names no rule does not apply.
@@ -300,25 +302,25 @@ pub fn step_by_rule<'a>(
     configuration: &'a [i64],
     rule: usize,
     out: &mut [i64],
-) -> StepAnswer
+) -> Result<Option<Stepped>, Refusal>
     ensures { StepByRuleContract table.now configuration.now rule out.old out.new result }
 {
     let mut index = [0u16; INDEX_LEN];
-    match accept(table, configuration, &mut index) {
-        Check::Good => apply_rule(table, &index, configuration, rule, out),
-        Check::Refused(r) => StepAnswer::Refused(r),
-    }
+    accept(table, configuration, &mut index)?;
+    apply_rule(table, &index, configuration, rule, out)
 }
 
 // The step: the earliest rule that applies writes its successor, if that is within the limit.
-pub fn step<'a>(table: &'a [i64], configuration: &'a [i64], out: &mut [i64]) -> StepAnswer
+pub fn step<'a>(
+    table: &'a [i64],
+    configuration: &'a [i64],
+    out: &mut [i64],
+) -> Result<Option<Stepped>, Refusal>
     ensures { StepContract table.now configuration.now out.old out.new result }
 {
     let mut index = [0u16; INDEX_LEN];
-    match accept(table, configuration, &mut index) {
-        Check::Good => apply_earliest(table, &index, configuration, out),
-        Check::Refused(r) => StepAnswer::Refused(r),
-    }
+    accept(table, configuration, &mut index)?;
+    apply_earliest(table, &index, configuration, out)
 }
 
 // How many rules a checked table has, a rule's action, and the rule at a position of the order in which rules are tried.

@@ -13,8 +13,8 @@ use borrow.Author.Tests.{le-leb, lt-leb}
 use Rattle.minuska.specs.Basics.{◌>>=◌, provided}
 use Rattle.minuska.specs.Term.{single}
 use Rattle.minuska.specs.Rule.{Rule, Table, rule_words}
-use Rattle.minuska.specs.declared.Check.{Check}
-use Rattle.minuska.specs.declared.Check.TheVariants.{Good, Refused}
+use Rattle.std.specs.Prelude.{Result, Ok, Err}
+use Rattle.minuska.specs.declared.Refusal.{Refusal}
 use Rattle.minuska.specs.declared.Refusal.TheVariants.{BadTable}
 use Rattle.minuska.specs.Slice.{write}
 use Rattle.minuska.specs.Computed.Read.{number_below, is_empty, read_rule, read_rules, read_table}
@@ -33,8 +33,8 @@ use Rattle.table.specs.Index.{places_then, places_read, places_counted, places_f
 use Rattle.table.proofs.BasicLaw.{none_after, never}
 use Rattle.table.proofs.NumberLaw.{below_not, below_yes}
 
-abbrev bad : Check
-bad = Refused BadTable
+abbrev bad : Result (Unit {0}) Refusal
+bad = Err BadTable
 
 -- ---- the places that were found are those of the table that was read
 abbrev rule_then : ℕ → Rule × List ℤ → Option (Table × List ℤ)
@@ -73,20 +73,20 @@ places_length at [] = refl
 places_length at (r ∷ t) = let e = places_length (at + length (rule_words r)) t in omega arith
 
 -- ---- the answer and the index afterwards are all that the contract asks
-pub index_contract : (ws : List ℤ) (old index : List ℕ) (r : Check) → r ≡ table_check ws → index ≡ write (places_found ws) old → IndexTableContract ws old index r
+pub index_contract : (ws : List ℤ) (old index : List ℕ) (r : Result (Unit {0}) Refusal) → r ≡ table_check ws → index ≡ write (places_found ws) old → IndexTableContract ws old index r
 unfolding table_check
 index_contract ws old index r e f = record { answer = e; leaves = f; indexed = λ g. pick (read_table ws) refl (sym g ∙ e) }
   where
-    pick : (o : Option Table) → read_table ws ≡ o → Good ≡ checked BadTable o → Indexed ws index
+    pick : (o : Option Table) → read_table ws ≡ o → Ok tt ≡ checked BadTable o → Indexed ws index
     pick none q g = absurd (never (cc))
     pick (some t) q g =
         let p : index ≡ write (places t) old = f ∙ ap (λ (xs : List ℕ). write xs old) (places_found_lem ws t q) in
         record { table = t; is = (read_table_iff ws t).0 q; indexed = ap (take (per_rule * length t)) p ∙ take_at (places t) (drop (length (places t)) old) (per_rule * length t) (places_length 1 t) }
 
 -- ---- the table's first word
-abbrev rest_check : Option (Table × List ℤ) → Check
+abbrev rest_check : Option (Table × List ℤ) → Result (Unit {0}) Refusal
 rest_check none = bad
-rest_check (some p) = cond (is_empty p.1) Good bad
+rest_check (some p) = cond (is_empty p.1) (Ok tt) bad
 
 -- the loop: rule number `rule` is to be read at a place
 pub record Reached (ws : List ℤ) (old index : List ℕ) (count rule at : ℕ) : Type 0 where
@@ -137,7 +137,7 @@ rest_is : (l : Bool) (o : Option (Table × List ℤ)) → l ≡ true → checked
 rest_is l none e = refl
 rest_is l (some p) e = ap (λ (b : Bool). checked BadTable (provided (is_empty p.1 && b) p.0)) e ∙ at (is_empty p.1)
   where
-    at : (b : Bool) → checked BadTable (provided (b && true) p.0) ≡ cond b Good bad
+    at : (b : Bool) → checked BadTable (provided (b && true) p.0) ≡ cond b (Ok tt) bad
     at true = refl
     at false = refl
 
@@ -312,19 +312,19 @@ module _ (ws : List ℤ) (old : List ℕ) where
       none_left : count - rule ≡ 0
       none_left = omega arith
 
-      last : table_check ws ≡ cond (is_empty (drop at ws)) Good bad
+      last : table_check ws ≡ cond (is_empty (drop at ws)) (Ok tt) bad
       last = r.check ∙ ap (λ (n : ℕ). rest_check (read_rules n (drop at ws))) none_left
 
       pub refused_rest : at < length ws → IndexTableContract ws old index bad
       refused_rest e =
-          index_contract ws old index bad (sym (last ∙ ap (λ (b : Bool). cond b Good bad) (some_left (drop at ws) (simp length-drop (omega arith)))))
+          index_contract ws old index bad (sym (last ∙ ap (λ (b : Bool). cond b (Ok tt) bad) (some_left (drop at ws) (simp length-drop (omega arith)))))
           (closed (ap (λ (n : ℕ). places_read n at (drop at ws)) none_left))
         where
           some_left : (xs : List ℤ) → 0 < length xs → is_empty xs ≡ false
           some_left [] g = absurd (let f : ⊥ = omega arith in f)
           some_left (x ∷ xs) g = refl
 
-      pub accepted : length ws ≤ at → IndexTableContract ws old index Good
+      pub accepted : length ws ≤ at → IndexTableContract ws old index (Ok tt)
       accepted e =
-          index_contract ws old index Good (sym (last ∙ ap (λ (xs : List ℤ). cond (is_empty xs) Good bad) (drop_of_length-le ws e)))
+          index_contract ws old index (Ok tt) (sym (last ∙ ap (λ (xs : List ℤ). cond (is_empty xs) (Ok tt) bad) (drop_of_length-le ws e)))
           (closed (ap (λ (n : ℕ). places_read n at (drop at ws)) none_left))

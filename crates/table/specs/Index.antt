@@ -2,8 +2,8 @@
 use Rattle.std.specs.Prelude.{◌≡◌, cond, List, [], ◌∷◌, ◌++◌, ℕ, zero, suc, ◌+◌, ◌-◌, ◌*◌, ◌≤◌, ◌<◌, ℤ, pos, leb, length, get_or}
 use Rattle.std.proofs.Math.Option.{Option, none, some}
 use Rattle.minuska.specs.Rule.{Rule, rule_words}
-use Rattle.minuska.specs.declared.Check.{Check}
-use Rattle.minuska.specs.declared.Check.TheVariants.{Good}
+use Rattle.std.specs.Prelude.{Result, Ok}
+use Rattle.minuska.specs.declared.Refusal.{Refusal}
 use Rattle.minuska.specs.Slice.{write}
 use Rattle.minuska.specs.Computed.Read.{number_below, read_rule}
 use Rattle.minuska.specs.Computed.Outcome.{table_check}
@@ -51,7 +51,7 @@ pub record RowFits (ws : List ℤ) (at right conditions end fixed leaves : ℕ) 
   pub variables : leaves < 65536
 
 -- The answer; the index afterwards, for every answer: the places of the rules that were accepted, the numbers behind them keep.
-pub record IndexTableContract (table : List ℤ) (index index' : List ℕ) (r : Check) : Type 0 where
+pub record IndexTableContract (table : List ℤ) (index index' : List ℕ) (r : Result (Unit {0}) Refusal) : Type 0 where
   pub answer : r ≡ table_check table
   pub leaves : index' ≡ write (places_found table) index
-  pub indexed : r ≡ Good → Indexed table index'
+  pub indexed : r ≡ Ok tt → Indexed table index'

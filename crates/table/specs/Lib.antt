@@ -1,6 +1,7 @@
 pub mod Number
 pub mod Level
 pub mod Below
+pub mod Checked
 pub mod Node
 pub mod Walk
 pub mod Reach

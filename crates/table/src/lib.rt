@@ -3,6 +3,7 @@
 
 mod expression;
 mod fill;
+pub mod checked;
 pub mod index;
 pub mod key;
 mod node;
@@ -21,10 +22,10 @@ ghost use Rattle.table.specs.Index.{IndexTableContract};
 
 use crate::fill::fill;
 use crate::number::natural;
-use minuska::{Check, INDEX_LEN, Index};
+use minuska::{INDEX_LEN, Index, Refusal};
 
 // Checks a table.
-pub fn check_table(table: &[i64]) -> Check
+pub fn check_table(table: &[i64]) -> Result<(), Refusal>
     ensures { CheckTableContract table.now result }
 {
     let mut index = [0u16; INDEX_LEN];
@@ -32,7 +33,7 @@ pub fn check_table(table: &[i64]) -> Check
 }
 
 // The same, and the index.
-pub fn index_table(table: &[i64], index: &mut Index) -> Check
+pub fn index_table(table: &[i64], index: &mut Index) -> Result<(), Refusal>
     ensures { IndexTableContract table.now index.old index.new result }
 {
     let ranges = term::ground::RANGES;

@@ -23,8 +23,8 @@ use Rattle.minuska.specs.Contract.{CheckConfigurationContract, SubtermContract}
 use Rattle.minuska.specs.Rule.{max_nodes, IsConfiguration}
 use Rattle.minuska.specs.Term.{Forest, Term, single, node_count, is_ground}
 use Rattle.minuska.specs.Word.{encode}
-use Rattle.minuska.specs.declared.Check.{Check}
-use Rattle.minuska.specs.declared.Check.TheVariants.{Good, Refused}
+use Rattle.std.specs.Prelude.{Result, Ok, Err}
+use Rattle.minuska.specs.declared.Refusal.{Refusal}
 use Rattle.minuska.specs.declared.Refusal.{Refusal}
 use Rattle.minuska.specs.declared.Refusal.TheVariants.{BadConfiguration}
 use Rattle.term.specs.TermEnd.{ground_label, ground_terms_end, NoneMet, GroundTermsAre, place_in}
@@ -77,35 +77,35 @@ module _ (ws : List ℤ) where
   pub walked_fills : Walked → Filled ws 0 (length ws)
   walked_fills t = record { forest = single t.term; fills = fills (single t.term) t.shape t.grounded t.words }
 
-  accepted : Walked → (length ws ≤ 65536) → ((t : Term) → FillsTo ws 0 (length ws) (single t) → T (ordered (single t))) → CheckConfigurationContract ws Good
+  accepted : Walked → (length ws ≤ 65536) → ((t : Term) → FillsTo ws 0 (length ws) (single t) → T (ordered (single t))) → CheckConfigurationContract ws (Ok tt)
   accepted t h o =
       let g = t.term in
       let l = term_length t.term in
       let n : length (encode (single t.term)) ≡ length ws = ap length t.words in
       let f : node_count t.term ≤ max_nodes = omega arith in
       let x = o t.term (fills (single t.term) t.shape t.grounded t.words) in
-      check_configuration_contract ws Good (sym ((configuration_check_lem ws).good.1 (g, record { accepted = good_configuration t.term (record { good = shapely_ok (single t.term) t.shape x; grounded = t.grounded; few = f }); words = t.words })))
+      check_configuration_contract ws (Ok tt) (sym ((configuration_check_lem ws).good.1 (g, record { accepted = good_configuration t.term (record { good = shapely_ok (single t.term) t.shape x; grounded = t.grounded; few = f }); words = t.words })))
 
   -- no dictionary was met, or all are in order
-  pub accepted_none : Walked → length ws ≤ 65536 → NoneMet ws 0 (length ws) → CheckConfigurationContract ws Good
+  pub accepted_none : Walked → length ws ≤ 65536 → NoneMet ws 0 (length ws) → CheckConfigurationContract ws (Ok tt)
   accepted_none t h m = accepted t h (λ g f. none_ordered m (single g) f.stands f.ends)
 
-  pub accepted_order : Walked → length ws ≤ 65536 → InOrder ws 0 (length ws) true → CheckConfigurationContract ws Good
+  pub accepted_order : Walked → length ws ≤ 65536 → InOrder ws 0 (length ws) true → CheckConfigurationContract ws (Ok tt)
   accepted_order t h m = accepted t h (λ g f. subst T (m.is (single g) f) tt)
 
-  refused : ((g : Term) → IsConfiguration ws g → ⊥) → CheckConfigurationContract ws (Refused BadConfiguration)
-  refused f = check_configuration_contract ws (Refused BadConfiguration) (sym ((configuration_check_lem ws).bad.1 f))
+  refused : ((g : Term) → IsConfiguration ws g → ⊥) → CheckConfigurationContract ws (Err BadConfiguration)
+  refused f = check_configuration_contract ws (Err BadConfiguration) (sym ((configuration_check_lem ws).bad.1 f))
 
-  pub refused_long : 65536 < length ws → CheckConfigurationContract ws (Refused BadConfiguration)
+  pub refused_long : 65536 < length ws → CheckConfigurationContract ws (Err BadConfiguration)
   refused_long h = refused (λ g c. let k = configuration_short g c in omega arith)
 
-  pub refused_nowhere : ground_terms_end ws 0 1 ≡ Nowhere → CheckConfigurationContract ws (Refused BadConfiguration)
+  pub refused_nowhere : ground_terms_end ws 0 1 ≡ Nowhere → CheckConfigurationContract ws (Err BadConfiguration)
   refused_nowhere p = refused (λ g c. let q = configuration_ends g c in let z : ◌≡◌ {A = ℕ} 0 1 = cc in omega arith)
 
-  pub refused_elsewhere : (e : ℕ) → ground_terms_end ws 0 1 ≡ At e → (e ≡ length ws → ⊥) → CheckConfigurationContract ws (Refused BadConfiguration)
+  pub refused_elsewhere : (e : ℕ) → ground_terms_end ws 0 1 ≡ At e → (e ≡ length ws → ⊥) → CheckConfigurationContract ws (Err BadConfiguration)
   refused_elsewhere e p f = refused (λ g c. let q = configuration_ends g c in f (let z : e ≡ length ws = cc in z))
 
-  pub refused_order : InOrder ws 0 (length ws) false → CheckConfigurationContract ws (Refused BadConfiguration)
+  pub refused_order : InOrder ws 0 (length ws) false → CheckConfigurationContract ws (Err BadConfiguration)
   refused_order m =
       refused (λ g c.
       let p = configuration_good g c.accepted in
@@ -113,8 +113,8 @@ module _ (ws : List ℤ) where
       subst⁻¹ T (m.is (single g) f) (ok_ordered (single g) p.good))
 
 -- ---- the part that is a subterm
-module _ (ws : List ℤ) (place : ℕ) (x : Check) (check : CheckConfigurationContract ws x) where
-  pub refused_part : (r : Refusal) → x ≡ Refused r → SubtermContract ws place []
+module _ (ws : List ℤ) (place : ℕ) (x : Result (Unit {0}) Refusal) (check : CheckConfigurationContract ws x) where
+  pub refused_part : (r : Refusal) → x ≡ Err r → SubtermContract ws place []
   refused_part r e =
       subterm_contract ws place []
       (sym (subterm_malformed ws place (λ g c. let h = check.claim.good.1 (g, c) in let z : ◌≡◌ {A = ℕ} 0 1 = cc in omega arith)))
@@ -125,7 +125,7 @@ module _ (ws : List ℤ) (place : ℕ) (x : Check) (check : CheckConfigurationCo
     pub is : IsConfiguration ws config
     pub here : ConfigurationSubterm ws config place
 
-  pub found : x ≡ Good → place < length ws / 2 → Found
+  pub found : x ≡ Ok tt → place < length ws / 2 → Found
   found e h =
       let g = check.claim.good.0 e in
       let l = configuration_length ws g.0 g.1 in

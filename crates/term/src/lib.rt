@@ -12,12 +12,13 @@ ghost use Rattle.term.specs.TermEnd.{any_label, ground_label, arity_of, children
 
 use minuska::limits::MAX_CONFIGURATION_WORDS;
 
+pub mod configuration;
 pub mod ground;
 pub mod order;
 
 use crate::ground::{Ground, ground_terms};
 use crate::order::in_order;
-use minuska::{Check, Refusal};
+use minuska::Refusal;
 
 // Document 01's table of nodes, with document 02's dictionaries: its tags, a symbol's the one with no children, and how many variables, functions and symbols there are.
 pub const ERROR: i64 = 0;
@@ -201,26 +202,26 @@ fn mixed_expression_end(s: &[i64], at: usize, count: usize) -> usize
 }
 
 // Whether the words are exactly one configuration.
-pub fn check_configuration(words: &[i64]) -> Check
+pub fn check_configuration(words: &[i64]) -> Result<(), Refusal>
     ensures { CheckConfigurationContract words.now result }
 {
     let n = words.len();
     if MAX_CONFIGURATION_WORDS < n {
-        return Check::Refused(Refusal::BadConfiguration);
+        return Err(Refusal::BadConfiguration);
     }
     let ranges = ground::RANGES;
     let Ground::At(e, met) = ground_terms(words, 0, 1, &ranges) else {
-        return Check::Refused(Refusal::BadConfiguration);
+        return Err(Refusal::BadConfiguration);
     };
     if e != n {
-        return Check::Refused(Refusal::BadConfiguration);
+        return Err(Refusal::BadConfiguration);
     }
     if met {
         if !in_order(words, 0, n) {
-            return Check::Refused(Refusal::BadConfiguration);
+            return Err(Refusal::BadConfiguration);
         }
     }
-    Check::Good
+    Ok(())
 }
 
 // The part that is the subterm at a place, a node's number in preorder; empty if there is none, or no configuration.
@@ -230,7 +231,7 @@ pub fn subterm<'a>(words: &'a [i64], place: usize) -> &'a [i64]
     if words.len() / 2 <= place {
         return &words[0..0];
     }
-    let Check::Good = check_configuration(words) else {
+    let Ok(()) = check_configuration(words) else {
         return &words[0..0];
     };
     let s = 2 * place;

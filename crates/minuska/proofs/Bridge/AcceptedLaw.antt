@@ -9,10 +9,11 @@ use native.Mathlib.Omega.{arith}
 use lib.IntN.{ℤ}
 use lib.Dec.{leb, leb→le}
 use lib.ListN.{length}
+use Rattle.std.specs.Prelude.{Err}
 use Rattle.minuska.specs.Term.{Term, single, node_count, nodes, is_ground}
 use Rattle.minuska.specs.Word.{ok, encode}
 use Rattle.minuska.specs.Rule.{Table, max_nodes, IsConfiguration}
-use Rattle.minuska.specs.Answer.{Refusal, Refused, BadTable, BadConfiguration, Outcome, refused}
+use Rattle.minuska.specs.Answer.{Refusal, BadTable, BadConfiguration, Outcome, refused}
 use Rattle.minuska.specs.Computed.Read.{read_table, read_configuration}
 use Rattle.minuska.specs.Computed.Outcome.{need, on_words, checked, table_check, configuration_check, or_second}
 use Rattle.minuska.proofs.Tests.{and_right}
@@ -31,11 +32,11 @@ configuration_most ws g p =
 
 -- 1 AND 2 OF ANY OUTCOME ON WORDS ARE WHAT THE CHECKS SAY, the table's first
 module _ {A : Type 0} (ws cs : List ℤ) (go : Table → Term → Outcome A) (r : Refusal) where
-  pub refused_first : or_second (table_check ws) (configuration_check cs) ≡ Refused r → on_words ws cs go ≡ refused r
+  pub refused_first : or_second (table_check ws) (configuration_check cs) ≡ Err r → on_words ws cs go ≡ refused r
   unfolding table_check configuration_check
   refused_first e = by (read_table ws) (read_configuration cs) e
     where
-      by : (o : Option Table) (p : Option Term) → or_second (checked BadTable o) (checked BadConfiguration p) ≡ Refused r → (need BadTable o λ t. need BadConfiguration p λ g. go t g) ≡ refused r
+      by : (o : Option Table) (p : Option Term) → or_second (checked BadTable o) (checked BadConfiguration p) ≡ Err r → (need BadTable o λ t. need BadConfiguration p λ g. go t g) ≡ refused r
       by none p q = let z : BadTable ≡ r = cc in ap {B = Outcome A} refused z
       by (some t) none q = let z : BadConfiguration ≡ r = cc in ap {B = Outcome A} refused z
       by (some t) (some g) q = absurd (let z : ◌≡◌ {A = ℕ} 0 1 = cc in let f : ⊥ = omega arith in f)

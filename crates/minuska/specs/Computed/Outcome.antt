@@ -1,6 +1,6 @@
 -- What each routine answers, for all words: lower numbers go first, then the computed answer. The names that contracts cite are shut.
 -- `proofs/OutcomeLaw` and `RefusalLaw`: they meet the claims.
-use Rattle.std.specs.Prelude.{Bool, ◌||◌, cond, List, [], ◌∷◌, ℕ, ◌*◌, ℤ, eqb, ltb, length}
+use Rattle.std.specs.Prelude.{Bool, ◌||◌, cond, List, [], ◌∷◌, ℕ, ◌*◌, ℤ, eqb, ltb, length, Result, Ok, Err}
 use Rattle.std.proofs.Math.Option.{Option, none, some}
 use Rattle.minuska.specs.Basics.{◌>>=◌}
 use Rattle.minuska.specs.Term.{Term, single, node_count}
@@ -9,7 +9,7 @@ use Rattle.minuska.specs.Word.{encode}
 use Rattle.minuska.specs.Rule.{Table, max_nodes, max_steps, max_actions}
 use Rattle.minuska.specs.Slice.{out_limit}
 use Rattle.minuska.specs.Claim.{work_words}
-use Rattle.minuska.specs.Answer.{Refusal, Check, Good, Refused, BadTable, BadConfiguration, TooLong, BadLimit, ShortBuffer, Outcome, refused, gives, MatchResult, ReasonsResult, StepResult, RunResult, ReplayResult}
+use Rattle.minuska.specs.Answer.{Refusal, BadTable, BadConfiguration, TooLong, BadLimit, ShortBuffer, Outcome, refused, gives, MatchResult, ReasonsResult, StepResult, RunResult, ReplayResult}
 use Rattle.minuska.specs.Computed.Read.{read_table, read_configuration}
 use Rattle.minuska.specs.Computed.Compare.{match_rule}
 use Rattle.minuska.specs.Computed.Step.{step_by_rule, step}
@@ -41,20 +41,20 @@ size_tests long limit short =
     record { refusal = TooLong; given = long } ∷ record { refusal = BadLimit; given = limit } ∷ record { refusal = ShortBuffer; given = short } ∷ []
 
 -- the two checks: good, or 1, or 2
-abbrev pub checked : {A : Type 0} → Refusal → Option A → Check
-checked r none = Refused r
-checked r (some a) = Good
+abbrev pub checked : {A : Type 0} → Refusal → Option A → Result (Unit {0}) Refusal
+checked r none = Err r
+checked r (some a) = Ok tt
 
-unfoldable pub table_check : List ℤ → Check
+unfoldable pub table_check : List ℤ → Result (Unit {0}) Refusal
 table_check ws = checked BadTable (read_table ws)
 
-unfoldable pub configuration_check : List ℤ → Check
+unfoldable pub configuration_check : List ℤ → Result (Unit {0}) Refusal
 configuration_check ws = checked BadConfiguration (read_configuration ws)
 
 -- both, the table's first: "lower numbers go first"
-abbrev pub or_second : Check → Check → Check
-or_second Good y = y
-or_second (Refused r) y = Refused r
+abbrev pub or_second : Result (Unit {0}) Refusal → Result (Unit {0}) Refusal → Result (Unit {0}) Refusal
+or_second (Ok _) y = y
+or_second (Err r) y = Err r
 
 -- the words of the subterm at a place; none where the words are no configuration or the place is no node
 abbrev pub term_words : Option Term → List ℤ

@@ -51,11 +51,11 @@ mul-s : tie.Need-overflow_mul-s
 mul-s c = search rules
 
 -- the subterm that stands there
-here : (c : tie.In-Good) → Found c.args.words.now c.args.place c.check_configuration.result c.check_configuration.ensures
+here : (c : tie.In-Ok) → Found c.args.words.now c.args.place c.check_configuration.result c.check_configuration.ensures
 here c =
     let u = c.before in
     let a = u.args in
-    found a.words.now a.place u.check_configuration.result u.check_configuration.ensures c.in-Good.is u.if-words-place.false
+    found a.words.now a.place u.check_configuration.result u.check_configuration.ensures c.in-Ok.is u.if-words-place.false
 
 ground-end-requires : tie.Need-ground_end-e-requires
 ground-end-requires c κs =

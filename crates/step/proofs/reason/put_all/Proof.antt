@@ -43,7 +43,7 @@ kind-requires c κs = search rules
 
 put-requires : tie.Need-put-requires invariant-loop decreases-loop
 put-requires c κs =
-    ((let r = c.requires.1 in let l = c.loop-n.invariant.1.long in omega arith), subst⁻¹ (λ (k : ℕ). k < 2 ^ 32) c.kind.ensures (kind_small c.decoded-found.result))
+    ((let r = c.requires.1 in let l = c.loop-n.invariant.1.long in omega arith), let k = subst⁻¹ (λ (k : ℕ). k < 2 ^ 32) c.kind.ensures (kind_small c.decoded-found.result) in omega arith)
 
 mul-put-2 : tie.Need-overflow_mul-n-in-loop-n invariant-loop decreases-loop
 mul-put-2 c = let f = c.requires.0.few in record { fits = omega arith }
@@ -57,7 +57,7 @@ place-requires c κs = in_range c.requires.0 c.requires.1 c.loop-n-test.true c.l
 put-requires-2 : tie.Need-put-requires-in-loop-n invariant-loop decreases-loop
 put-requires-2 c κs =
     let e = ap (λ (l : List ℤ). length l) c.put.ensures ∙ length-set c.loop-n.list _ _ in
-    ((let r = c.requires.1 in let l = c.loop-n.invariant.1.long in omega arith), subst⁻¹ (λ (k : ℕ). k < 2 ^ 32) c.place.ensures (place_small c.decoded-found.result (in_range c.requires.0 c.requires.1 c.loop-n-test.true c.loop-n.invariant.1 c.decoded-found.ensures)))
+    ((let r = c.requires.1 in let l = c.loop-n.invariant.1.long in omega arith), let k = subst⁻¹ (λ (k : ℕ). k < 2 ^ 32) c.place.ensures (place_small c.decoded-found.result (in_range c.requires.0 c.requires.1 c.loop-n-test.true c.loop-n.invariant.1 c.decoded-found.ensures)) in omega arith)
 
 add-n : tie.Need-overflow_add-n-in-loop-n invariant-loop decreases-loop
 add-n c = let f = c.requires.0.few in record { fits = omega arith }
