@@ -1,11 +1,10 @@
 -- What the program answers and writes (document 01, "The replay desk").
-use Rattle.std.specs.Prelude.{Option, None, Some, List, [], ◌∷◌, ◌++◌, map, ℕ, ℤ, length}
+use Rattle.std.specs.Prelude.{Option, None, Some, Err, List, [], ◌∷◌, ◌++◌, map, ℕ, ℤ, length}
 use Rattle.minuska.specs.Term.{Term, single}
 use Rattle.minuska.specs.Word.{encode}
 use Rattle.minuska.specs.declared.Refusal.{Refusal}
 use Rattle.minuska.specs.declared.Refusal.TheVariants.{OverLimit, Unreadable}
 use Rattle.minuska.specs.Answer.{Outcome, refused, gives, ReplayResult, reproduced, exceeded, not_reproduced}
-use Rattle.minuska.specs.declared.ReplayAnswer.TheVariants.{Refused}
 use Rattle.minuska.specs.Slice.{replay_says}
 use Rattle.minuska.specs.Computed.Outcome.{replay_outcome}
 use Rattle.decimal.specs.Decimal.{ascii, decimal, whole_text}
@@ -22,7 +21,7 @@ reproduced_text choices words = line (ascii "reproduced" ∷ map decimal (length
 
 -- "or `refused,` and the number"
 abbrev pub refused_text : Refusal → List ℕ
-refused_text r = line (ascii "refused" ∷ decimal (replay_says (Refused r)).number ∷ [])
+refused_text r = line (ascii "refused" ∷ decimal (replay_says (Err r)).number ∷ [])
 
 -- "or `not reproduced`"
 abbrev pub not_reproduced_text : List ℕ

@@ -14,7 +14,6 @@ use crate::print::{put_not_reproduced, put_refusal, put_reproduced};
 use decimal::Text;
 use decimal::line::{read_items, read_limit, read_log};
 use minuska::Refusal;
-use replay::CountedAnswer;
 
 mod lines;
 mod print;
@@ -23,10 +22,10 @@ mod print;
 pub const MAX_OUTPUT: usize = 28672;
 
 // Puts the answer to a request, unless it is refused.
-fn answer_request(
-    table: &[i64],
+fn answer_request<'a>(
+    table: &'a [i64],
     configuration: &[i64],
-    log: &[u16],
+    log: &'a [u16],
     limit: usize,
     text: &mut Text,
 ) -> Result<(), Refusal>
@@ -44,19 +43,12 @@ fn answer_request(
         &mut out,
         &mut choices,
         &mut work,
-    );
+    )?;
     match answer {
-        CountedAnswer::Reproduced(nodes) => {
-            let end = 2 * nodes;
-            put_reproduced(text, &choices[..log.len()], &out[..end]);
-            Ok(())
-        }
-        CountedAnswer::NotReproduced => {
-            put_not_reproduced(text);
-            Ok(())
-        }
-        CountedAnswer::Refused(why) => Err(why),
+        Some(nodes) => put_reproduced(text, &choices[..log.len()], &out[..2 * nodes]),
+        None => put_not_reproduced(text),
     }
+    Ok(())
 }
 
 // Puts the answer to an input, unless it is refused. None where the input is no request, and then nothing is put.

@@ -12,7 +12,7 @@ pub fn put_refusal(text: &mut Text, refusal: Refusal)
     ensures { Puts text.old (refused_text refusal) text.new }
 {
     text.put_text(b"refused,");
-    minuska::number(refusal).put(text);
+    u64::from(refusal).put(text);
     text.put_text(b"\n");
 }
 
