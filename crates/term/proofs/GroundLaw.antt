@@ -180,7 +180,3 @@ neither_passes t d g f = record { children = no_node ground_label t d (λ m n. �
 pub as_ground : (t d : ℤ) (r : Bool) → (t ≡ pos dictionary_tag → ⊥) → TaggedNode t d r → GroundNode t d r
 as_ground t d true f n = tagged_passes t d n
 as_ground t d false f n = neither_passes t d n (λ m e p q. f e)
-
--- words that pass are a node's
-pub ground_words : (t d : ℤ) → GroundNode t d true → NodeWords t d
-ground_words t d g = node_words ground_label t d (plain_children t d) g.children
