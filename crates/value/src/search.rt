@@ -14,11 +14,13 @@ pub fn search(s: &[i64], at: usize, n: usize, key: i64) -> Result<Span, usize>
         if key < here {
             return Err(i);
         }
-        let end = term::ground_end(s, i + 2);
         if key == here {
-            return Ok(Span { from: i, to: end });
+            return Ok(Span {
+                from: i,
+                to: term::ground_end(s, i + 2),
+            });
         }
-        i = end;
+        i = term::ground_end(s, i + 2);
     }
     Err(i)
 }
