@@ -1,176 +1,117 @@
 // The lines, one after the other. A line is a key, which its first letter tells, numbers, and behind a semicolon a name; what a table, a configuration and a
 // log line say is kept.
-use crate::text;
+use crate::build::{shorts, words};
+use crate::call::Call;
+use crate::show;
+use crate::text::{front, key, parts};
+use minuska::Refusal;
 use std::io;
 
-// How many words, and actions, are kept.
-#[derive(Clone, Copy)]
-struct Lengths {
-    table: usize,
-    configuration: usize,
-    log: usize,
+// The words and actions that are kept, at the starts of the arrays, and how many.
+#[derive(Drop)]
+struct Kept {
+    table: [i64; 65600],
+    table_len: usize,
+    configuration: [i64; 65600],
+    configuration_len: usize,
+    log: [u16; 4200],
+    log_len: usize,
 }
 
-// A table; it is checked if it has a name.
-fn keep_table(
-    rt: &impl Print,
-    name: &[u8],
-    numbers: &[u8],
-    kept: Lengths,
-    table: &mut [i64],
-) -> io::Result<Lengths> {
-    let n = crate::build::words(numbers, table);
-    crate::call::table(rt, name, crate::build::front(table, n))?;
-    Ok(Lengths {
-        table: n,
-        configuration: kept.configuration,
-        log: kept.log,
-    })
-}
-
-// A configuration; it is checked if it has a name.
-fn keep_configuration(
-    rt: &impl Print,
-    name: &[u8],
-    numbers: &[u8],
-    kept: Lengths,
-    configuration: &mut [i64],
-) -> io::Result<Lengths> {
-    let n = crate::build::words(numbers, configuration);
-    crate::call::configuration(rt, name, crate::build::front(configuration, n))?;
-    Ok(Lengths {
-        table: kept.table,
-        configuration: n,
-        log: kept.log,
-    })
-}
-
-fn keep_log(numbers: &[u8], kept: Lengths, log: &mut [u16]) -> Lengths {
-    let mut words = [0i64; 4200];
-    let n = crate::build::words(numbers, &mut words);
-    Lengths {
-        table: kept.table,
-        configuration: kept.configuration,
-        log: crate::build::shorts(crate::build::front(&words, n), log),
+impl Kept {
+    fn table(&self) -> &[i64] {
+        front(&self.table, self.table_len)
     }
+
+    fn configuration(&self) -> &[i64] {
+        front(&self.configuration, self.configuration_len)
+    }
+
+    fn keep_log(&mut self, numbers: &[u8]) {
+        let mut read = [0i64; 4200];
+        let count = words(numbers, &mut read);
+        self.log_len = shorts(front(&read, count), &mut self.log);
+    }
+
+    fn call(&self, numbers: &[u8]) -> Call<'_> {
+        let mut read = [0i64; 8];
+        words(numbers, &mut read);
+        Call {
+            table: self.table(),
+            configuration: self.configuration(),
+            log: front(&self.log, self.log_len),
+            numbers: read,
+        }
+    }
+}
+
+// A check of what has a name.
+fn checked(rt: &impl Print, what: &str, name: &[u8], check: Result<(), Refusal>) -> io::Result<()> {
+    if name.is_empty() {
+        return Ok(());
+    }
+    print!(rt; "{what}, ")?;
+    rt.write_all(name)?;
+    print!(rt; ": ")?;
+    show::answer(rt, check.map(|_| show::Good))?;
+    println!(rt; "")
 }
 
 // A call: the numbers of its line are its other arguments.
-fn call<'a>(
-    rt: &impl Print,
-    key: u8,
-    name: &[u8],
-    numbers: &[u8],
-    table: &'a [i64],
-    configuration: &'a [i64],
-    log: &[u16],
-) -> io::Result<()> {
-    let mut a = [0i64; 8];
-    crate::build::words(numbers, &mut a);
-    crate::show::named(rt, name)?;
+fn run_call(rt: &impl Print, key: u8, name: &[u8], call: Call) -> io::Result<()> {
+    rt.write_all(name)?;
+    print!(rt; ": ")?;
     match key {
-        b'v' => crate::call::value(rt, &a),
-        b'a' => crate::call::part(rt, configuration, &a),
-        b'm' => crate::call::left(rt, table, configuration, &a),
-        b'w' => crate::call::reasons(rt, table, configuration, &a),
-        b's' => crate::call::step(rt, table, configuration, &a),
-        b'b' => crate::call::rule(rt, table, configuration, &a),
-        b'r' => crate::call::run(rt, table, configuration, &a),
-        b'p' => crate::call::replay(rt, table, configuration, log, &a),
+        b'v' => call.value(rt),
+        b'a' => call.part(rt),
+        b'm' => call.left(rt),
+        b'w' => call.reasons(rt),
+        b's' => call.step(rt),
+        b'b' => call.rule(rt),
+        b'r' => call.run(rt),
+        b'p' => call.replay(rt),
         _ => Ok(()),
     }?;
-    crate::show::end(rt)
+    println!(rt; "")
 }
 
 // No key has a digit, a minus or an x, so that the numbers of a line may be read from its start.
-fn said(
-    rt: &impl Print,
-    key: u8,
-    name: &[u8],
-    numbers: &[u8],
-    kept: Lengths,
-    table: &mut [i64],
-    configuration: &mut [i64],
-    log: &mut [u16],
-) -> io::Result<Lengths> {
-    match key {
-        b't' => keep_table(rt, name, numbers, kept, table),
-        b'c' => keep_configuration(rt, name, numbers, kept, configuration),
-        b'l' => Ok(keep_log(numbers, kept, log)),
-        b'#' => Ok(kept),
-        _ => {
-            call(
+fn run_line(rt: &impl Print, line: &[u8], kept: &mut Kept) -> io::Result<()> {
+    let (numbers, name) = parts(line);
+    match key(line) {
+        b't' => {
+            kept.table_len = words(numbers, &mut kept.table);
+            checked(rt, "table", name, table::check_table(kept.table()))
+        }
+        b'c' => {
+            kept.configuration_len = words(numbers, &mut kept.configuration);
+            checked(
                 rt,
-                key,
+                "configuration",
                 name,
-                numbers,
-                crate::build::front(table, kept.table),
-                crate::build::front(configuration, kept.configuration),
-                crate::build::first(log, kept.log),
-            )?;
-            Ok(kept)
+                term::check_configuration(kept.configuration()),
+            )
         }
-    }
-}
-
-fn line(
-    rt: &impl Print,
-    s: &[u8],
-    kept: Lengths,
-    table: &mut [i64],
-    configuration: &mut [i64],
-    log: &mut [u16],
-) -> io::Result<Lengths> {
-    let end = text::find(s, b';');
-    said(
-        rt,
-        text::first(s),
-        text::from(text::from(s, end), 2),
-        text::before(s, end),
-        kept,
-        table,
-        configuration,
-        log,
-    )
-}
-
-// The place behind a line's end.
-fn behind(at: usize, length: usize) -> usize {
-    if at < 131072 {
-        if length < 131072 {
-            return at + length + 1;
+        b'l' => {
+            kept.keep_log(numbers);
+            Ok(())
         }
+        b'#' => Ok(()),
+        key => run_call(rt, key, name, kept.call(numbers)),
     }
-    at
-}
-
-fn lines(
-    rt: &impl Print,
-    input: &[u8],
-    table: &mut [i64],
-    configuration: &mut [i64],
-    log: &mut [u16],
-) -> io::Result<()> {
-    let mut kept = Lengths {
-        table: 0,
-        configuration: 0,
-        log: 0,
-    };
-    let mut at = 0;
-    let mut i = 0;
-    while i < input.len() {
-        let rest = text::from(input, at);
-        let end = text::find(rest, b'\n');
-        kept = line(rt, text::before(rest, end), kept, table, configuration, log)?;
-        at = behind(at, end);
-        i += 1;
-    }
-    Ok(())
 }
 
 pub fn all(rt: &impl Print, input: &[u8]) -> io::Result<()> {
-    let mut table = [0i64; 65600];
-    let mut configuration = [0i64; 65600];
-    let mut log = [0u16; 4200];
-    lines(rt, input, &mut table, &mut configuration, &mut log)
+    let mut kept = Kept {
+        table: [0; 65600],
+        table_len: 0,
+        configuration: [0; 65600],
+        configuration_len: 0,
+        log: [0; 4200],
+        log_len: 0,
+    };
+    for line in input.split(|byte| *byte == b'\n') {
+        run_line(rt, line, &mut kept)?;
+    }
+    Ok(())
 }

@@ -1,31 +1,19 @@
-// Parts of a text.
+// Parts of a line.
 
-// The bytes before a place, or all.
-pub fn before(text: &[u8], at: usize) -> &[u8] {
-    if text.len() < at {
-        return text;
-    }
-    &text[0..at]
+// The key's first letter; an empty line counts as a comment.
+pub fn key(line: &[u8]) -> u8 {
+    line.first().copied().unwrap_or(b'#')
 }
 
-// The bytes from a place on, or none.
-pub fn from(text: &[u8], at: usize) -> &[u8] {
-    let end = text.len();
-    if end < at {
-        return &text[end..end];
+// The numbers of a line, and behind a semicolon and a blank its name.
+pub fn parts(line: &[u8]) -> (&[u8], &[u8]) {
+    match line.iter().position(|byte| *byte == b';') {
+        Some(end) => (&line[..end], line.get(end + 2..).unwrap_or(&line[end..end])),
+        None => (line, &line[line.len()..]),
     }
-    &text[at..end]
 }
 
-// The place of a byte, or the end.
-pub fn find(text: &[u8], byte: u8) -> usize {
-    text.iter().position(|b| *b == byte).unwrap_or(text.len())
-}
-
-// The first byte; an empty line counts as a comment.
-pub fn first(text: &[u8]) -> u8 {
-    if text.len() == 0 {
-        return b'#';
-    }
-    text[0]
+// The first elements of a slice; all, if there are fewer.
+pub fn front<T>(items: &[T], n: usize) -> &[T] {
+    &items[..n.min(items.len())]
 }

@@ -12,6 +12,7 @@ pub fn read_full<R: Read>(reader: &mut R, buffer: &mut [u8]) -> io::Result<usize
     ensures bytes { IfOk result (λ n. Consumes (R.Read.remaining reader.old) (R.Read.remaining reader.new) (take n buffer.new)) }
     ensures end { IfOk result (λ n. (n ≡ length buffer.new) ⊎ IsAtEnd (R.Read.remaining reader.new)) }
 {
+    // The reader decides how far it goes: `read_exact` tells no count at the input's end, and `read_to_end` needs a heap.
     let mut done = 0;
     while done < buffer.len() {
         let n = reader.read(&mut buffer[done..])?;

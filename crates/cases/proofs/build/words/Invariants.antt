@@ -1,9 +1,0 @@
--- the slice keeps its length
-use Rattle.std.proofs.Common.{◌≡◌, ◌-◌, length}
-use Rattle.cases.proofs.build.words.Given as goal
-
-abbrev pub invariant-loop-i : goal.invariant-loop-i
-invariant-loop-i l = length l.words ≡ length l.initial.words
-
-abbrev pub decreases-loop-i : goal.decreases-loop-i
-decreases-loop-i l = length l.text - l.i
