@@ -4,8 +4,9 @@ ghost use Rattle.minuska.specs.Bridge.Place.{Indexed, Names, RuleCountIs, Action
 ghost use Rattle.minuska.specs.Computed.Outcome.{table_check};
 ghost use Rattle.table.specs.Checked.{Indexed-prop};
 
-use crate::index::{RightSizes, Span};
+use crate::index::RightSizes;
 use minuska::{Index, Refusal};
+use term::Span;
 
 // The words of a table, and its index, which the check has filled.
 #[derive(Clone, Copy)]

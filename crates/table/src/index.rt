@@ -7,6 +7,7 @@ ghost use Rattle.table.specs.Index.{NumberIs, row_of, RowFits};
 use crate::key::key;
 use crate::number::natural;
 use minuska::{Index, PER_RULE};
+use term::Span;
 
 // The word at which the first rule stands, behind the rule count: places are counted from there.
 pub const FIRST_RULE: usize = 1;
@@ -30,13 +31,6 @@ pub const ACTION: usize = 5;
 pub const FIXED: usize = 6;
 
 pub const LEAVES: usize = 7;
-
-// A part of a rule: the words of a table from one place up to another.
-#[derive(Clone, Copy)]
-pub struct Span {
-    pub from: usize,
-    pub to: usize,
-}
 
 // The sizes of a right: how many of its nodes give one node each, and how many are variables.
 #[derive(Clone, Copy)]

@@ -1,9 +1,9 @@
 // The table's check, and the index: where the parts of each rule stand.
 #![tactic(auto)]
 
+pub mod checked;
 mod expression;
 mod fill;
-pub mod checked;
 pub mod index;
 pub mod key;
 mod node;

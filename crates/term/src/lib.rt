@@ -15,6 +15,7 @@ use minuska::limits::MAX_CONFIGURATION_WORDS;
 pub mod configuration;
 pub mod ground;
 pub mod order;
+pub mod places;
 
 use crate::ground::{Ground, ground_terms};
 use crate::order::in_order;
@@ -51,6 +52,13 @@ pub const MAX_ENTRIES: i64 = 64;
 
 // A number for each variable: where the parts of a match start, or where they end. A configuration's places have 17 bits: in 32 the array is cleared with half the stores of 64.
 pub type Places = [u32; VARIABLES];
+
+// A part of a slice of words: from one place up to another.
+#[derive(Clone, Copy)]
+pub struct Span {
+    pub from: usize,
+    pub to: usize,
+}
 
 // The place behind what a walk has taken, or that it found something else.
 #[derive(Clone, Copy)]

@@ -5,6 +5,7 @@ ghost use Rattle.std.specs.Prelude.{◌≡◌, ◌+◌, ◌≤◌, length};
 ghost use Rattle.value.specs.Value.{value_words, part_words, Within, size_of, Ordered};
 ghost use Rattle.value.specs.Evaluate.{ExpressionIn, EvaluateContract, ConditionIn, ConditionContract};
 ghost use Rattle.value.specs.Copy.{PutContract};
+ghost use Rattle.value.specs.Short.{ShortIn, ShortContract};
 
 use expression::expression;
 use leaf::leaf;
@@ -151,5 +152,55 @@ pub fn put<'a>(
             words::copy(out, at, words);
             at + words.len()
         }
+    }
+}
+
+// What expressions are evaluated over.
+#[derive(Clone, Copy)]
+pub struct Scope<'a> {
+    pub table: &'a [i64],
+    pub configuration: &'a [i64],
+    pub places: &'a term::places::Places,
+}
+
+impl<'a> Scope<'a> {
+    pub fn evaluate(&self, at: usize) -> Evaluated
+        requires { ExpressionIn self.now.table.now self.now.configuration.now self.now.places.now.starts self.now.places.now.ends at }
+        ensures { EvaluateContract self.now.table.now self.now.configuration.now self.now.places.now.starts self.now.places.now.ends at result }
+    {
+        evaluate(
+            self.table,
+            self.configuration,
+            at,
+            &self.places.starts,
+            &self.places.ends,
+        )
+    }
+
+    pub fn condition(&self, at: usize) -> Tested
+        requires { ConditionIn self.now.table.now self.now.configuration.now self.now.places.now.starts self.now.places.now.ends at }
+        ensures { ConditionContract self.now.table.now self.now.configuration.now self.now.places.now.starts self.now.places.now.ends at result }
+    {
+        condition(
+            self.table,
+            self.configuration,
+            at,
+            &self.places.starts,
+            &self.places.ends,
+        )
+    }
+
+    pub fn short_call(&self, at: usize) -> builtin::Root
+        requires { ShortIn self.now.table.now self.now.configuration.now self.now.places.now.starts at }
+        ensures { ShortContract self.now.table.now self.now.configuration.now self.now.places.now.starts at result }
+    {
+        short::short_call(self.table, self.configuration, at, &self.places.starts)
+    }
+
+    pub fn put(&self, out: &mut [i64], at: usize, v: Value) -> usize
+        requires { Within self.now.table.now self.now.configuration.now v × (at + size_of v ≤ length out.old) }
+        ensures { PutContract out.old at (value_words self.now.table.now self.now.configuration.now v) out.new result }
+    {
+        put(out, at, self.table, self.configuration, v)
     }
 }
