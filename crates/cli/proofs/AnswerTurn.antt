@@ -1,9 +1,10 @@
--- The returns of the routines that answer a request, four lines and an input.
+-- The returns of the routine that answers a request.
 use mathlib.Core.Path.{◌≡◌, refl, sym, ap, ◌∙◌, subst, subst⁻¹}
 use mathlib.Core.List.{List}
 use Prim.Native.Nat.{ℕ, ◌+◌, ◌-◌, ◌*◌, ◌≤◌}
 use native.Mathlib.Omega.{arith}
 use lib.IntN.{ℤ}
+use Rattle.std.specs.Prelude.{Option, None, Some, Result, Ok, Err}
 use lib.ListN.{length, take, drop, length-append, length-drop}
 use lib.Seq.{take-append_seam, take_at, length-take-le}
 use Rattle.minuska.specs.Term.{Term, single, node_count}
@@ -14,22 +15,19 @@ use Rattle.minuska.specs.Answer.{Outcome, refused, gives, ReplayResult, reproduc
 use Rattle.minuska.specs.Slice.{write, replay_out, replay_choices}
 use Rattle.minuska.specs.Computed.Outcome.{replay_outcome}
 use Rattle.minuska.proofs.Bridge.AcceptedLaw.{term_length}
-use Rattle.replay.specs.declared.CountedAnswer.{CountedAnswer}
-use Rattle.replay.specs.declared.CountedAnswer.TheVariants as A
 use Rattle.replay.specs.Counted.{counted_answer, uncounted, CountedContract}
 use Rattle.cli.proofs.CallerLaw.{choices_length}
 use Rattle.cli.specs.Output.{answer_text, reproduced_text, refused_text, not_reproduced_text}
-use Rattle.decimal.specs.Computed.Put.{Wrote}
 
 -- ---- what an outcome's answer tells
-not_reproduced_is : (o : Outcome (ReplayResult Term)) → A.NotReproduced ≡ counted_answer o → answer_text o ≡ not_reproduced_text
+not_reproduced_is : (o : Outcome (ReplayResult Term)) → Ok None ≡ counted_answer o → answer_text o ≡ not_reproduced_text
 unfolding counted_answer answer_text
 not_reproduced_is (refused r) e = let z : ◌≡◌ {A = ℕ} 0 1 = cc in absurd (omega arith)
 not_reproduced_is (gives (reproduced ns h)) e = let z : ◌≡◌ {A = ℕ} 0 1 = cc in absurd (omega arith)
 not_reproduced_is (gives exceeded) e = let z : ◌≡◌ {A = ℕ} 0 1 = cc in absurd (omega arith)
 not_reproduced_is (gives not_reproduced) e = refl
 
-refused_is : (o : Outcome (ReplayResult Term)) (r : Refusal) → A.Refused r ≡ counted_answer o → answer_text o ≡ refused_text r
+refused_is : (o : Outcome (ReplayResult Term)) (r : Refusal) → Err r ≡ counted_answer o → answer_text o ≡ refused_text r
 unfolding counted_answer answer_text
 refused_is (refused q) r e = let f : r ≡ q = cc in ap refused_text (sym f)
 refused_is (gives (reproduced ns h)) r e = let z : ◌≡◌ {A = ℕ} 0 1 = cc in absurd (omega arith)
@@ -43,7 +41,7 @@ record Reproduced (o : Outcome (ReplayResult Term)) (nodes : ℕ) : Type 0 where
   pub is : o ≡ gives (reproduced choices last)
   pub counts : nodes ≡ node_count last
 
-found : (o : Outcome (ReplayResult Term)) (nodes : ℕ) → A.Reproduced nodes ≡ counted_answer o → Reproduced o nodes
+found : (o : Outcome (ReplayResult Term)) (nodes : ℕ) → Ok (Some nodes) ≡ counted_answer o → Reproduced o nodes
 unfolding counted_answer
 found (refused r) nodes e = let z : ◌≡◌ {A = ℕ} 0 1 = cc in absurd (omega arith)
 found (gives (reproduced ns h)) nodes e = let f : nodes ≡ node_count h = cc in record { choices = ns; last = h; is = refl; counts = f }
@@ -60,22 +58,21 @@ write_fits xs old new e s =
 pub record Shown (ws cs : List ℤ) (log : List ℕ) (n : ℕ) (out' : List ℤ) (choices' : List ℕ) (end : ℕ) : Type 0 where
   pub choices_room : length log ≤ length choices'
   pub words_room : end ≤ length out'
-  pub text_room : 64 + 21 * length (take (length log) choices') + 22 * length (take end out') ≤ 28672
+  pub text_room : 64 + 21 * length (take (length log) choices') + 21 * length (take end out') ≤ 28672
   pub text : answer_text (replay_outcome ws cs log n 1024 256 4096) ≡ reproduced_text (take (length log) choices') (take end out')
 
-module _ (ws cs : List ℤ) (log : List ℕ) (n : ℕ) (out : List ℤ) (choices : List ℕ) (work out' : List ℤ) (choices' : List ℕ) (work' : List ℤ) (r : CountedAnswer)
+module _ (ws cs : List ℤ) (log : List ℕ) (n : ℕ) (out : List ℤ) (choices : List ℕ) (work out' : List ℤ) (choices' : List ℕ) (work' : List ℤ) (r : Result (Option ℕ) Refusal)
     (k : CountedContract ws cs log n out choices work out' choices' work' r) (a : length out ≡ 1024) (b : length choices ≡ 256) (c : length work ≡ 4096) where
   outcome_is : k.replays.outcome ≡ replay_outcome ws cs log n 1024 256 4096
   outcome_is = k.replays.is ∙ rw (a, b, c)
 
-  module _ (old new : List ℕ) (m : ℕ) where
-    pub not_reproduced_answer : r ≡ A.NotReproduced → Wrote old 0 not_reproduced_text new m → Wrote old 0 (answer_text (replay_outcome ws cs log n 1024 256 4096)) new m
-    not_reproduced_answer e w = rw (← outcome_is, not_reproduced_is k.replays.outcome (sym e ∙ k.counts)) w
+  pub not_reproduced_answer : r ≡ Ok None → answer_text (replay_outcome ws cs log n 1024 256 4096) ≡ not_reproduced_text
+  not_reproduced_answer e = rw (← outcome_is, not_reproduced_is k.replays.outcome (sym e ∙ k.counts))
 
-    pub refused_answer : (why : Refusal) → r ≡ A.Refused why → Wrote old 0 (refused_text why) new m → Wrote old 0 (answer_text (replay_outcome ws cs log n 1024 256 4096)) new m
-    refused_answer why e w = rw (← outcome_is, refused_is k.replays.outcome why (sym e ∙ k.counts)) w
+  pub refused_answer : (why : Refusal) → r ≡ Err why → answer_text (replay_outcome ws cs log n 1024 256 4096) ≡ refused_text why
+  refused_answer why e = rw (← outcome_is, refused_is k.replays.outcome why (sym e ∙ k.counts))
 
-  module _ (nodes : ℕ) (e : r ≡ A.Reproduced nodes) (s : length out' ≡ length out) (t : length choices' ≡ length choices) where
+  module _ (nodes : ℕ) (e : r ≡ Ok (Some nodes)) (s : length out' ≡ length out) (t : length choices' ≡ length choices) where
     the : Reproduced k.replays.outcome nodes
     the = found k.replays.outcome nodes (sym e ∙ k.counts)
 
@@ -106,7 +103,7 @@ module _ (ws cs : List ℤ) (log : List ℕ) (n : ℕ) (out : List ℤ) (choices
       words_room_lem : end ≤ length out'
       words_room_lem = subst⁻¹ (λ (m : ℕ). m ≤ length out') end_is_lem (write_fits found_words_lem out out' words_are s)
 
-      text_room_lem : 64 + 21 * length (take (length log) choices') + 22 * length (take end out') ≤ 28672
+      text_room_lem : 64 + 21 * length (take (length log) choices') + 21 * length (take end out') ≤ 28672
       text_room_lem =
           let l : length (take (length log) choices') ≡ length log = length-take-le (length log) choices' choices_room_lem in
           let m : length (take end out') ≡ end = length-take-le end out' words_room_lem in

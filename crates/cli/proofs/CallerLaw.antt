@@ -4,6 +4,8 @@ use mathlib.Core.List.{List, [], ◌∷◌}
 use Prim.Native.Nat.{ℕ, suc, ◌≤◌, ◌<◌}
 use native.Mathlib.Omega.{arith}
 use lib.IntN.{ℤ}
+use Rattle.std.specs.Prelude.{Result}
+use Rattle.minuska.specs.declared.Refusal.{Refusal}
 use lib.ListN.{length}
 use Rattle.minuska.specs.declared.ReplayAnswer.{ReplayAnswer}
 use Rattle.minuska.specs.Term.{Term, node_count}
@@ -24,7 +26,7 @@ yields_length Next Each t [] (n ∷ ns) last h = absurd h
 yields_length Next Each t (a ∷ log) [] last h = absurd h
 yields_length Next Each t (a ∷ log) (n ∷ ns) last h = ap suc (yields_length Next Each h.1.0 log ns last h.1.2)
 
-pub choices_length : (ws cs : List ℤ) (log : List ℕ) (n : ℕ) (out : List ℤ) (choices : List ℕ) (work out' : List ℤ) (choices' : List ℕ) (work' : List ℤ) (r : ReplayAnswer)
+pub choices_length : (ws cs : List ℤ) (log : List ℕ) (n : ℕ) (out : List ℤ) (choices : List ℕ) (work out' : List ℤ) (choices' : List ℕ) (work' : List ℤ) (r : Result ReplayAnswer Refusal)
     (k : ReplayContract ws cs log n out choices work out' choices' work' r) (ns : List ℕ) (h : Term) → k.outcome ≡ gives (reproduced ns h) → length ns ≡ length log
 choices_length ws cs log n out choices work out' choices' work' r k ns h e =
     let (t, g, p, q, s) = words_read ws cs (size_rows cs n (max_actions < length log) (ReplayShort n log (length out) (length choices) (length work))) k.outcome (reproduced ns h) e k.refuses in

@@ -1,7 +1,7 @@
 -- P8 to P12, from the bytes that are read to the bytes that are written (`all_answered`).
 use mathlib.Core.Path.{◌≡◌, refl, ap, ◌∙◌}
 use mathlib.Core.Bool.{Bool, true, false, ◌&&◌}
-use mathlib.Core.Option.{some}
+use Rattle.std.specs.Prelude.{Some}
 use mathlib.Core.List.{List, [], ◌∷◌, map}
 use Prim.Native.Nat.{ℕ}
 use lib.Dec.{T, leb, lit≤}
@@ -76,7 +76,7 @@ Writes (evaluates e v) = Unit {0}
 Writes (matches l c b) = Unit {0}
 Writes (differs l c k) = Unit {0}
 Writes (steps c x) = Unit {0}
-Writes (replays log limit x) = answer_text (answered (some (sampled log limit))) ≡ printed_text x
+Writes (replays log limit x) = answer_text (answered (Some (sampled log limit))) ≡ printed_text x
 
 case_writes : (c : M.Case) → T (is_answered c) → Means c → Writes c
 unfolding answered
@@ -128,7 +128,7 @@ sample_input log limit input text l n =
 answered_case : (log : List ℕ) (limit : ℕ) (x : Printed) (c : Exchange) → Writes (replays log limit x) → c.input ≡ input_text (sampled log limit)
     → T (field_test decimal is_action 0 256 log) → T (field_test decimal is_limit 1 1 (limit ∷ [])) → printed_text x ≡ c.output → Answered c
 answered_case log limit x c w text l n out output output' r room k =
-    let read : k.request ≡ some (sampled log limit) = (k.reads (sampled log limit)).1 (sample_input log limit c.input text l n) in
+    let read : k.request ≡ Some (sampled log limit) = (k.reads (sampled log limit)).1 (sample_input log limit c.input text l n) in
     let prints : answer_text k.outcome ≡ c.output = ap answer_text (k.is ∙ ap answered read) ∙ (w ∙ out) in
     let says : k.text ≡ c.output = k.says ∙ rw (le-leb max_output (length output) room) prints in
     (k.leaves ∙ ap (λ (l : List ℕ). write l output) says, k.counts ∙ ap length says)

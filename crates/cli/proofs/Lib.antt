@@ -4,8 +4,7 @@ pub mod LinesLaw
 pub mod RequestLaw
 pub mod ContractLaw
 pub mod ExchangeLaw
--- The turns and returns of the routines, over plain variables.
-pub mod LinesTurn
+-- The returns of the routines, over plain variables.
 pub mod TextTurn
 pub mod AnswerTurn
 pub mod RequestTurn

@@ -2,27 +2,24 @@
 use mathlib.Core.Path.{◌≡◌, refl, sym, ap, ◌∙◌}
 use mathlib.Core.Bool.{Bool, true}
 use mathlib.Core.Logic.{◌↔◌}
-use mathlib.Core.Option.{some, none-ne-some, some-injective}
 use mathlib.Core.List.{List, [], ◌∷◌, ◌++◌, map, append-nil, append_assoc}
 use Prim.Native.Nat.{ℕ, suc, ◌+◌, ◌/◌, ◌%◌, ◌≤◌}
 use native.Mathlib.Omega.{arith}
 use lib.IntN.{ℤ, pos, negsuc}
 use lib.Dec.{T}
 use lib.ListN.{length, length-append}
-use lib.Seq.{drop-length}
 use Rattle.minuska.specs.Basics.{every}
-use Rattle.minuska.proofs.Tests.{and_left, and_both, came}
-use Rattle.cli.specs.declared.lines.Lines.{Lines}
-use Rattle.cli.specs.declared.lines.Lines.TheVariants.{Four, Bad}
+use Rattle.minuska.proofs.Tests.{and_left, and_both}
+use Rattle.std.specs.Prelude.{Option, None, Some, option_map}
 use Rattle.decimal.specs.Decimal.{digits, decimal, whole_text}
 use Rattle.decimal.specs.Line.{continued, parted, is_word, is_action, is_limit}
 use Rattle.cli.specs.Input.{line, Request, input_text, Field, IsInput}
 use Rattle.decimal.specs.Computed.Line.{word_of, items, log_items, accepted, limit_in}
-use Rattle.cli.specs.Computed.Lines.{lines_of, request_of, request_in}
+use Rattle.cli.specs.Computed.Lines.{FourLines, lines_of, request_of, request_in}
 use Rattle.decimal.proofs.DecimalLaw.{digits_zero, digits_less, decimal_is, by_tenths}
 use Rattle.decimal.proofs.LineLaw.{field_complete, field_sound}
 use Rattle.decimal.proofs.FieldsLaw.{words, log_complete, log_sound, limit_complete, limit_sound}
-use Rattle.cli.proofs.LinesLaw.{NoLf, Lined, LinesSound, lines_sound, line_in_lem, Cut, lines_complete}
+use Rattle.cli.proofs.LinesLaw.{came, NoLf, Lined, lines_sound, lines_complete}
 
 -- ---- no number has an LF
 no_lf_append : (l m : List ℕ) → NoLf l → NoLf m → NoLf (l ++ m)
@@ -62,20 +59,25 @@ module _ (q : Request) where
   text_lines = four (parted (map whole_text q.table)) (parted (map whole_text q.configuration)) (parted (map decimal q.log)) (parted (decimal q.limit ∷ []))
 
 -- ---- complete
-lines_read : (q : Request) (first second third fourth : List ℕ) → accepted 2048 (items word_of first) ≡ some q.table → accepted 1024 (items word_of second) ≡ some q.configuration
-    → accepted 256 (log_items third) ≡ some q.log → limit_in fourth ≡ some q.limit → request_of first second third fourth ≡ some q
-unfolding request_of
-lines_read q first second third fourth a b c d = rw (a, b, c, d)
+-- the lines of a request's text
+abbrev lines_text : Request → FourLines
+lines_text q = record { table = parted (map whole_text q.table); configuration = parted (map whole_text q.configuration); log = parted (map decimal q.log); limit = parted (decimal q.limit ∷ []) }
 
-request_complete : (input : List ℕ) (q : Request) → IsInput input q → request_in input (lines_of input) ≡ some q
+lines_read : (q : Request) → accepted 2048 (items word_of (lines_text q).table) ≡ Some q.table → accepted 1024 (items word_of (lines_text q).configuration) ≡ Some q.configuration
+    → accepted 256 (log_items (lines_text q).log) ≡ Some q.log → limit_in (lines_text q).limit ≡ Some q.limit → request_of (lines_text q) ≡ Some q
+unfolding request_of
+lines_read q a b c d = rw (a, b, c, d)
+
+request_complete : (input : List ℕ) (q : Request) → IsInput input q → request_in input ≡ Some q
+unfolding request_in
 request_complete input q h =
     let limit : T (is_limit q.limit) = and_left (is_limit q.limit) true h.limit.each in
-    let k : Cut input (parted (map whole_text q.table)) (parted (map whole_text q.configuration)) (parted (map decimal q.log)) (parted (decimal q.limit ∷ [])) =
-    lines_complete input (parted (map whole_text q.table)) (parted (map whole_text q.configuration)) (parted (map decimal q.log)) (parted (decimal q.limit ∷ [])) (h.text ∙ text_lines q)
+    let cut : lines_of input ≡ Some (lines_text q) = ap lines_of (h.text ∙ text_lines q) ∙
+    lines_complete (parted (map whole_text q.table)) (parted (map whole_text q.configuration)) (parted (map decimal q.log)) (parted (decimal q.limit ∷ []))
     (no_lf_parted whole_text no_lf_whole q.table) (no_lf_parted whole_text no_lf_whole q.configuration) (no_lf_parted decimal no_lf_decimal q.log) (no_lf_parted decimal no_lf_decimal (q.limit ∷ []))
     h.table.short h.configuration.short h.log.short h.limit.short in
-    rw (k.are, k.firsts, k.seconds, k.thirds, k.fourths)
-    (lines_read q (parted (map whole_text q.table)) (parted (map whole_text q.configuration)) (parted (map decimal q.log)) (parted (decimal q.limit ∷ []))
+    rw cut
+    (lines_read q
     (field_complete (λ z. z) whole_text is_word word_of words (parted (map whole_text q.table)) 2048 q.table refl h.table.each h.table.enough h.table.few)
     (field_complete (λ z. z) whole_text is_word word_of words (parted (map whole_text q.configuration)) 1024 q.configuration refl h.configuration.each h.configuration.enough h.configuration.few)
     (log_complete (parted (map decimal q.log)) 256 q.log refl h.log.each h.log.few)
@@ -86,50 +88,46 @@ request_complete input q h =
 held : {A : Type 0} (text : A → List ℕ) (fits : A → Bool) (least most : ℕ) (l : List ℕ) (xs : List A) → l ≡ parted (map text xs) → T (every fits xs) → least ≤ length xs → length xs ≤ most → length l ≤ 16384 → Field text fits least most xs
 held text fits least most l xs e t p q r = record { each = t; enough = p; few = q; short = rw (← e) r }
 
-record LinesHeld (q : Request) (first second third fourth : List ℕ) : Type 0 where
-  pub table : accepted 2048 (items word_of first) ≡ some q.table
-  pub configuration : accepted 1024 (items word_of second) ≡ some q.configuration
-  pub log : accepted 256 (log_items third) ≡ some q.log
-  pub limit : limit_in fourth ≡ some q.limit
+record LinesHeld (q : Request) (lines : FourLines) : Type 0 where
+  pub table : accepted 2048 (items word_of lines.table) ≡ Some q.table
+  pub configuration : accepted 1024 (items word_of lines.configuration) ≡ Some q.configuration
+  pub log : accepted 256 (log_items lines.log) ≡ Some q.log
+  pub limit : limit_in lines.limit ≡ Some q.limit
 
-lines_held : (q : Request) (first second third fourth : List ℕ) → request_of first second third fourth ≡ some q → LinesHeld q first second third fourth
+came_by : {A B : Type 0} (f : A → B) (o : Option A) (b : B) → option_map f o ≡ Some b → (a : A) × (o ≡ Some a) × (f a ≡ b)
+came_by f None b e = let z : ◌≡◌ {A = ℕ} 0 1 = cc in absurd (omega arith)
+came_by f (Some a) b e = let g : f a ≡ b = cc in (a, refl, g)
+
+lines_held : (q : Request) (lines : FourLines) → request_of lines ≡ Some q → LinesHeld q lines
 unfolding request_of
-lines_held q first second third fourth e =
-    let (table, a, e1) = came (accepted 2048 (items word_of first)) _ q e in
-    let (configuration, b, e2) = came (accepted 1024 (items word_of second)) _ q e1 in
-    let (log, c, e3) = came (accepted 256 (log_items third)) _ q e2 in
-    let (limit, d, e4) = came (limit_in fourth) _ q e3 in
-    let is : record { table = table; configuration = configuration; log = log; limit = limit } ≡ q = some-injective _ q e4 in
-    record { table = a ∙ ap (λ (r : Request). some r.table) is; configuration = b ∙ ap (λ (r : Request). some r.configuration) is; log = c ∙ ap (λ (r : Request). some r.log) is; limit = d ∙ ap (λ (r : Request). some r.limit) is }
+lines_held q lines e =
+    let (table, a, e1) = came _ (accepted 2048 (items word_of lines.table)) q e in
+    let (configuration, b, e2) = came _ (accepted 1024 (items word_of lines.configuration)) q e1 in
+    let (log, c, e3) = came _ (accepted 256 (log_items lines.log)) q e2 in
+    let (limit, d, is) = came_by _ (limit_in lines.limit) q e3 in
+    record { table = a ∙ ap (λ (r : Request). Some r.table) is; configuration = b ∙ ap (λ (r : Request). Some r.configuration) is; log = c ∙ ap (λ (r : Request). Some r.log) is; limit = d ∙ ap (λ (r : Request). Some r.limit) is }
 
--- the input is its lines
-lined : (input : List ℕ) (b c d : ℕ) (h : Lined input b c d) → input ≡ h.first.line ++ (10 ∷ (h.second.line ++ (10 ∷ (h.third.line ++ (10 ∷ (h.fourth.line ++ (10 ∷ [])))))))
-lined input b c d h = h.first.split ∙ rw (h.second.split, h.third.split, h.fourth.split, drop-length)
-
-by_held : (input : List ℕ) (q : Request) (b c d : ℕ) (h : Lined input b c d) → LinesHeld q h.first.line h.second.line h.third.line h.fourth.line → IsInput input q
-by_held input q b c d h k =
-    let (e1, t1, p1, r1) = field_sound (λ z. z) whole_text is_word word_of words h.first.line 2048 q.table k.table in
-    let (e2, t2, p2, r2) = field_sound (λ z. z) whole_text is_word word_of words h.second.line 1024 q.configuration k.configuration in
-    let (e3, t3, r3) = log_sound h.third.line 256 q.log k.log in
-    let (e4, t4) = limit_sound h.fourth.line q.limit k.limit in
+by_held : (input : List ℕ) (q : Request) (lines : FourLines) → Lined input lines → LinesHeld q lines → IsInput input q
+by_held input q lines h k =
+    let (e1, t1, p1, r1) = field_sound (λ z. z) whole_text is_word word_of words lines.table 2048 q.table k.table in
+    let (e2, t2, p2, r2) = field_sound (λ z. z) whole_text is_word word_of words lines.configuration 1024 q.configuration k.configuration in
+    let (e3, t3, r3) = log_sound lines.log 256 q.log k.log in
+    let (e4, t4) = limit_sound lines.limit q.limit k.limit in
     record {
-      text = lined input b c d h ∙ (rw (e1, e2, e3, e4, ← one_number q.limit) (sym (text_lines q)));
-      table = held whole_text is_word 1 2048 h.first.line q.table e1 t1 p1 r1 h.first.short;
-      configuration = held whole_text is_word 1 1024 h.second.line q.configuration e2 t2 p2 r2 h.second.short;
-      log = held decimal is_action 0 256 h.third.line q.log e3 t3 (omega arith) r3 h.third.short;
-      limit = held decimal is_limit 1 1 h.fourth.line (q.limit ∷ []) (e4 ∙ sym (one_number q.limit)) (and_both (is_limit q.limit) true t4 tt) (omega arith) (omega arith) h.fourth.short;
+      text = h.text ∙ (rw (e1, e2, e3, e4, ← one_number q.limit) (sym (text_lines q)));
+      table = held whole_text is_word 1 2048 lines.table q.table e1 t1 p1 r1 h.table;
+      configuration = held whole_text is_word 1 1024 lines.configuration q.configuration e2 t2 p2 r2 h.configuration;
+      log = held decimal is_action 0 256 lines.log q.log e3 t3 (omega arith) r3 h.log;
+      limit = held decimal is_limit 1 1 lines.limit (q.limit ∷ []) (e4 ∙ sym (one_number q.limit)) (and_both (is_limit q.limit) true t4 tt) (omega arith) (omega arith) h.limit;
     }
 
-by_lines : (input : List ℕ) (q : Request) (x : Lines) → LinesSound input x → request_in input x ≡ some q → IsInput input q
-by_lines input q (Four b c d) h e =
-    by_held input q b c d h (lines_held q h.first.line h.second.line h.third.line h.fourth.line
-    (rw (line_in_lem input 0 b h.first, line_in_lem input b c h.second, line_in_lem input c d h.third, line_in_lem input d (length input) h.fourth) at e))
-by_lines input q Bad h e = absurd (none-ne-some q e)
+request_sound : (input : List ℕ) (q : Request) → request_in input ≡ Some q → IsInput input q
+unfolding request_in
+request_sound input q e =
+    let (lines, cut, f) = came request_of (lines_of input) q e in
+    by_held input q lines (lines_sound input lines cut) (lines_held q lines f)
 
-request_sound : (input : List ℕ) (q : Request) → request_in input (lines_of input) ≡ some q → IsInput input q
-request_sound input q e = by_lines input q (lines_of input) (lines_sound input) e
-
-pub request_iff : (input : List ℕ) (q : Request) → (request_in input (lines_of input) ≡ some q) ↔ IsInput input q
+pub request_iff : (input : List ℕ) (q : Request) → (request_in input ≡ Some q) ↔ IsInput input q
 request_iff input q = (request_sound input q, request_complete input q)
 
 -- "At most 16,384 bytes a line without its LF": the longest input

@@ -1,45 +1,38 @@
--- The returns of the routines that put an answer's text.
+-- The returns of the routines that put an answer's text: texts one behind the other.
 use mathlib.Core.Path.{◌≡◌, ap}
 use mathlib.Core.List.{List, ◌++◌, map, append-nil, append_assoc}
 use Prim.Native.Nat.{ℕ, ◌≤◌}
-use native.Mathlib.Omega.{arith}
 use lib.IntN.{ℤ}
 use lib.ListN.{length}
 use Rattle.minuska.specs.declared.Refusal.{Refusal}
 use Rattle.minuska.specs.Answer.{number}
 use Rattle.minuska.specs.Slice.{replay_says}
+use Rattle.decimal.specs.declared.print.Text.{Text}
 use Rattle.decimal.specs.Decimal.{ascii, decimal, whole_text}
 use Rattle.decimal.specs.Line.{continued, parted}
+use Rattle.decimal.specs.Computed.Put.{Puts}
+use Rattle.decimal.proofs.PrintTurn.{puts_then}
 use Rattle.cli.specs.Output.{reproduced_text, refused_text}
-use Rattle.decimal.specs.Computed.Put.{Wrote}
-use Rattle.decimal.proofs.PutLaw.{wrote_then}
-
--- one text behind the other, each within the output
-behind_it : (old : List ℕ) (t mid : List ℕ) (m : ℕ) (u new : List ℕ) (r : ℕ) → m ≤ length old → Wrote old 0 t mid m → Wrote mid m u new r → Wrote old 0 (t ++ u) new r
-behind_it old t mid m u new r p v w = wrote_then old 0 t mid m u new r (omega (arith, v.end)) v w
 
 refused_is : (r : Refusal) → refused_text r ≡ ascii "refused," ++ decimal (number r) ++ ascii "\n"
 unfolding replay_says
 refused_is r = ap (λ (l : List ℕ). ascii "refused," ++ l ++ ascii "\n") (append-nil (decimal (number r)))
 
-pub refused_wrote : (old a b new : List ℕ) (r : Refusal) (n i j k : ℕ) → j ≤ length old → n ≡ number r → Wrote old 0 (ascii "refused,") a i → Wrote a i (decimal n) b j → Wrote b j (ascii "\n") new k → i ≤ length old
-    → Wrote old 0 (refused_text r) new k
-refused_wrote old a b new r n i j k p e v w x q =
-    rw (refused_is r)
-    (behind_it old (ascii "refused," ++ decimal (number r)) b j (ascii "\n") new k p (behind_it old (ascii "refused,") a i (decimal (number r)) b j q v (rw e at w)) x)
+pub puts_refused : (r : Refusal) (a b c d : Text) → Puts a (ascii "refused,") b → Puts b (decimal (number r)) c → Puts c (ascii "\n") d
+    → b.at ≤ length b.output.now → c.at ≤ length c.output.now → Puts a (refused_text r) d
+puts_refused r a b c d p q s h i =
+    rw (refused_is r) (puts_then a (ascii "refused,") b (decimal (number r) ++ ascii "\n") d p (puts_then b (decimal (number r)) c (ascii "\n") d q s i) h)
 
-reproduced_is : (ns : List ℕ) (ws : List ℤ) → reproduced_text ns ws ≡ ascii "reproduced," ++ decimal (length ns) ++ continued (map decimal ns) ++ ascii "\n" ++ parted (map whole_text ws) ++ ascii "\n"
+reproduced_is : (ns : List ℕ) (ws : List ℤ) → reproduced_text ns ws ≡ ascii "reproduced," ++ (decimal (length ns) ++ (continued (map decimal ns) ++ (ascii "\n" ++ (parted (map whole_text ws) ++ ascii "\n"))))
 reproduced_is ns ws = simp append_assoc
 
-pub reproduced_wrote : (old a b c d e new : List ℕ) (ns : List ℕ) (ws : List ℤ) (i j k l m n : ℕ) → Wrote old 0 (ascii "reproduced,") a i → Wrote a i (decimal (length ns)) b j → Wrote b j (continued (map decimal ns)) c k
-    → Wrote c k (ascii "\n") d l → Wrote d l (parted (map whole_text ws)) e m → Wrote e m (ascii "\n") new n → m ≤ length old → Wrote old 0 (reproduced_text ns ws) new n
-reproduced_wrote old a b c d e new ns ws i j k l m n v w x y z u p =
-    let q : l ≤ m = omega (arith, z.end) in
-    let r : k ≤ l = omega (arith, y.end) in
-    let s : j ≤ k = omega (arith, x.end) in
-    let t : i ≤ j = omega (arith, w.end) in
+pub puts_reproduced : (ns : List ℕ) (ws : List ℤ) (a b c d e f g : Text) → Puts a (ascii "reproduced,") b → Puts b (decimal (length ns)) c → Puts c (continued (map decimal ns)) d
+    → Puts d (ascii "\n") e → Puts e (parted (map whole_text ws)) f → Puts f (ascii "\n") g
+    → b.at ≤ length b.output.now → c.at ≤ length c.output.now → d.at ≤ length d.output.now → e.at ≤ length e.output.now → f.at ≤ length f.output.now → Puts a (reproduced_text ns ws) g
+puts_reproduced ns ws a b c d e f g p q r s t u h i j k l =
     rw (reproduced_is ns ws)
-    (behind_it old _ e m (ascii "\n") new n p
-    (behind_it old _ d l (parted (map whole_text ws)) e m (omega arith)
-    (behind_it old _ c k (ascii "\n") d l (omega arith)
-    (behind_it old _ b j (continued (map decimal ns)) c k (omega arith) (behind_it old (ascii "reproduced,") a i (decimal (length ns)) b j (omega arith) v w) x) y) z) u)
+    (puts_then a (ascii "reproduced,") b _ g p
+    (puts_then b (decimal (length ns)) c _ g q
+    (puts_then c (continued (map decimal ns)) d _ g r
+    (puts_then d (ascii "\n") e _ g s
+    (puts_then e (parted (map whole_text ws)) f (ascii "\n") g t u l) k) j) i) h)

@@ -1,6 +1,5 @@
 -- THE CONTRACT of `answer`.
-use Rattle.std.specs.Prelude.{◌≡◌, Bool, true, false, ◌↔◌, List, [], ℕ, leb, length}
-use Rattle.std.proofs.Math.Option.{Option, some}
+use Rattle.std.specs.Prelude.{◌≡◌, Bool, true, false, ◌↔◌, List, [], ℕ, leb, length, Option, Some}
 use Rattle.minuska.specs.Term.{Term}
 use Rattle.minuska.specs.declared.Refusal.TheVariants.{Unreadable}
 use Rattle.minuska.specs.Answer.{Outcome, refused, ReplayResult}
@@ -22,7 +21,7 @@ fitted false text = []
 pub record AnswerContract (input output output' : List ℕ) (r : ℕ) : Type 0 where
   pub request : Option Request
   -- the input is taken exactly if it is the text of a request, and then as that request
-  pub reads : (q : Request) → (request ≡ some q) ↔ IsInput input q
+  pub reads : (q : Request) → (request ≡ Some q) ↔ IsInput input q
   pub outcome : Outcome (ReplayResult Term)
   pub is : outcome ≡ answered request
   -- "7, which the desk gives before all", "its text is not as below"

@@ -1,12 +1,10 @@
 -- What the program answers and writes (document 01, "The replay desk").
-use Rattle.std.proofs.Math.Option.{Option, none, some}
-use Rattle.std.specs.Prelude.{List, [], ◌∷◌, ◌++◌, map, ℕ, ℤ, length}
+use Rattle.std.specs.Prelude.{Option, None, Some, Err, List, [], ◌∷◌, ◌++◌, map, ℕ, ℤ, length}
 use Rattle.minuska.specs.Term.{Term, single}
 use Rattle.minuska.specs.Word.{encode}
 use Rattle.minuska.specs.declared.Refusal.{Refusal}
 use Rattle.minuska.specs.declared.Refusal.TheVariants.{OverLimit, Unreadable}
 use Rattle.minuska.specs.Answer.{Outcome, refused, gives, ReplayResult, reproduced, exceeded, not_reproduced}
-use Rattle.minuska.specs.declared.ReplayAnswer.TheVariants.{Refused}
 use Rattle.minuska.specs.Slice.{replay_says}
 use Rattle.minuska.specs.Computed.Outcome.{replay_outcome}
 use Rattle.decimal.specs.Decimal.{ascii, decimal, whole_text}
@@ -14,8 +12,8 @@ use Rattle.cli.specs.Input.{line, Request}
 
 -- "It lends 1,024 words of out and 4,096 of work", and as many choices as a log line holds actions. No request: "beyond is 7", before all else.
 unfoldable pub answered : Option Request → Outcome (ReplayResult Term)
-answered none = refused Unreadable
-answered (some q) = replay_outcome q.table q.configuration q.log q.limit 1024 256 4096
+answered None = refused Unreadable
+answered (Some q) = replay_outcome q.table q.configuration q.log q.limit 1024 256 4096
 
 -- "`reproduced,` the step count and the picks parted by commas, then a second line with the final configuration"
 abbrev pub reproduced_text : List ℕ → List ℤ → List ℕ
@@ -23,7 +21,7 @@ reproduced_text choices words = line (ascii "reproduced" ∷ map decimal (length
 
 -- "or `refused,` and the number"
 abbrev pub refused_text : Refusal → List ℕ
-refused_text r = line (ascii "refused" ∷ decimal (replay_says (Refused r)).number ∷ [])
+refused_text r = line (ascii "refused" ∷ decimal (replay_says (Err r)).number ∷ [])
 
 -- "or `not reproduced`"
 abbrev pub not_reproduced_text : List ℕ

@@ -1,18 +1,19 @@
 // The command line program's work: the bytes of an input to the bytes of its answer.
 #![tactic(auto)]
 
-ghost use Rattle.std.specs.Prelude.{◌≤◌, length};
+ghost use Rattle.std.specs.Prelude.{◌≡◌, MatchOption};
 ghost use Rattle.minuska.specs.Computed.Outcome.{replay_outcome};
+ghost use Rattle.decimal.specs.Computed.Put.{HasRoom, Puts};
 ghost use Rattle.cli.specs.Output.{answered, answer_text};
 ghost use Rattle.cli.specs.Contract.{max_output, AnswerContract};
-ghost use Rattle.cli.specs.Computed.Lines.{request_of};
-ghost use Rattle.decimal.specs.Computed.Put.{Wrote};
+ghost use Rattle.cli.specs.Computed.Lines.{request_in};
+ghost use Rattle.cli.specs.Computed.Answer.{Answers, Unread};
 
-use crate::lines::{Lines, four_lines};
+use crate::lines::four_lines;
 use crate::print::{put_not_reproduced, put_refusal, put_reproduced};
-use decimal::line::{Count, Limit, read_limit, read_log, read_words};
+use decimal::Text;
+use decimal::line::{read_items, read_limit, read_log};
 use minuska::Refusal;
-use replay::CountedAnswer;
 
 mod lines;
 mod print;
@@ -20,16 +21,16 @@ mod print;
 // An output slice of this many bytes holds every answer.
 pub const MAX_OUTPUT: usize = 28672;
 
-// The answer to a request.
-fn answer_request(
-    table: &[i64],
+// Puts the answer to a request, unless it is refused.
+fn answer_request<'a>(
+    table: &'a [i64],
     configuration: &[i64],
-    log: &[u16],
+    log: &'a [u16],
     limit: usize,
-    output: &mut [u8],
-) -> usize
-    requires { max_output ≤ length output.old }
-    ensures { Wrote output.old 0 (answer_text (replay_outcome table.now configuration.now log.now limit 1024 256 4096)) output.new result }
+    text: &mut Text,
+) -> Result<(), Refusal>
+    requires { HasRoom text.old max_output }
+    ensures { Answers text.old (replay_outcome table.now configuration.now log.now limit 1024 256 4096) text.new result }
 {
     let mut out = [0i64; 1024];
     let mut choices = [0u16; 256];
@@ -42,50 +43,46 @@ fn answer_request(
         &mut out,
         &mut choices,
         &mut work,
-    );
+    )?;
     match answer {
-        CountedAnswer::Reproduced(nodes) => {
-            let end = 2 * nodes;
-            put_reproduced(output, &choices[..log.len()], &out[..end])
-        }
-        CountedAnswer::NotReproduced => put_not_reproduced(output),
-        CountedAnswer::Refused(why) => put_refusal(output, why),
+        Some(nodes) => put_reproduced(text, &choices[..log.len()], &out[..2 * nodes]),
+        None => put_not_reproduced(text),
     }
+    Ok(())
 }
 
-// The answer to four lines.
-fn answer_lines(
-    table_line: &[u8],
-    configuration_line: &[u8],
-    log_line: &[u8],
-    limit_line: &[u8],
-    output: &mut [u8],
-) -> usize
-    requires { max_output ≤ length output.old }
-    ensures { Wrote output.old 0 (answer_text (answered (request_of table_line.now configuration_line.now log_line.now limit_line.now))) output.new result }
+// Puts the answer to an input, unless it is refused. None where the input is no request, and then nothing is put.
+fn answer_input(input: &[u8], text: &mut Text) -> Option<Result<(), Refusal>>
+    requires { HasRoom text.old max_output }
+    ensures { MatchOption result (Unread input.now text.old text.new) (Answers text.old (answered (request_in input.now)) text.new) }
 {
+    let lines = four_lines(input)?;
     let mut table = [0i64; 2048];
-    let Count::Read(words) = read_words(table_line, &mut table) else {
-        return put_refusal(output, Refusal::Unreadable);
-    };
+    let words = read_items(lines.table, &mut table)?;
     let mut configuration = [0i64; 1024];
-    let Count::Read(more) = read_words(configuration_line, &mut configuration) else {
-        return put_refusal(output, Refusal::Unreadable);
-    };
+    let more = read_items(lines.configuration, &mut configuration)?;
     let mut log = [0u16; 256];
-    let Count::Read(actions) = read_log(log_line, &mut log) else {
-        return put_refusal(output, Refusal::Unreadable);
-    };
-    let Limit::Is(limit) = read_limit(limit_line) else {
-        return put_refusal(output, Refusal::Unreadable);
-    };
-    answer_request(
+    let actions = read_log(lines.log, &mut log)?;
+    let limit = read_limit(lines.limit)?;
+    Some(answer_request(
         &table[..words],
         &configuration[..more],
         &log[..actions],
         limit as usize,
-        output,
-    )
+        text,
+    ))
+}
+
+// Puts the answer to an input. What is no request is refused as unreadable.
+fn put_answer(input: &[u8], text: &mut Text)
+    requires { HasRoom text.old max_output }
+    ensures puts { Puts text.old (answer_text (answered (request_in input.now))) text.new }
+    ensures same_output { text.new.output.ghost_name ≡ text.old.output.ghost_name }
+{
+    let answered = answer_input(input, text).unwrap_or(Err(Refusal::Unreadable));
+    if let Err(refusal) = answered {
+        put_refusal(text, refusal);
+    }
 }
 
 // The text of the answer to an input, at the start of the output, and its length. An output shorter than `MAX_OUTPUT` gets nothing.
@@ -95,18 +92,7 @@ pub fn answer(input: &[u8], output: &mut [u8]) -> usize
     if output.len() < MAX_OUTPUT {
         return 0;
     }
-    match four_lines(input) {
-        Lines::Four {
-            second,
-            third,
-            fourth,
-        } => answer_lines(
-            &input[..second - 1],
-            &input[second..third - 1],
-            &input[third..fourth - 1],
-            &input[fourth..input.len() - 1],
-            output,
-        ),
-        Lines::Bad => put_refusal(output, Refusal::Unreadable),
-    }
+    let mut text = Text::new(output);
+    put_answer(input, &mut text);
+    text.at
 }

@@ -1,68 +1,54 @@
 // The four lines.
-ghost use Rattle.std.specs.Prelude.{◌≡◌, drop};
-ghost use Rattle.cli.specs.Computed.Lines.{end_from, next_line, lines_of};
+ghost use Rattle.std.specs.Prelude.{◌≡◌, ◌<◌, suc, length, take, drop, option_map};
+ghost use Rattle.cli.specs.Computed.Lines.{first_lf, split_line, lines_of, texts};
 
-// Where the second, the third and the fourth line start; the first starts at 0, and the input ends with the fourth.
+// A line has no more bytes before its LF.
+const MAX_LINE: usize = 16384;
+
+// The lines of an input, without their LFs.
 #[derive(Clone, Copy)]
-pub enum Lines {
-    Four {
-        second: usize,
-        third: usize,
-        fourth: usize,
-    },
-    Bad,
+pub struct Lines<'a> {
+    pub table: &'a [u8],
+    pub configuration: &'a [u8],
+    pub log: &'a [u8],
+    pub limit: &'a [u8],
 }
 
-// The place of the first LF from a place on, or the input's length.
-fn line_end(input: &[u8], from: usize) -> usize
-    ensures { result ≡ end_from from (drop from input.now) }
+// Where the first LF stands.
+#[tactic(auto, using(crate::proofs::LinesLaw::lf_found, crate::proofs::LinesLaw::lf_nowhere))]
+fn line_end(input: &[u8]) -> Option<usize>
+    ensures { result ≡ first_lf input.now }
 {
-    let mut at = from;
-    while at < input.len() {
-        if input[at] == b'\n' {
-            return at;
-        }
-        at += 1;
-    }
-    at
+    input.iter().position(|byte| *byte == b'\n')
 }
 
-// The place behind a line; 0 where the line has no LF or is too long.
-#[tactic(auto, using(crate::proofs::LinesTurn::line_from, crate::proofs::LinesTurn::next_none, crate::proofs::LinesTurn::next_long, crate::proofs::LinesTurn::next_line_lem))]
-fn next_line(input: &[u8], from: usize) -> usize
-    ensures { result ≡ next_line input.now from }
+// The first line, and what stands behind its LF.
+#[tactic(auto, using(crate::proofs::LinesLaw::lf_inside, crate::proofs::LinesLaw::taken), unfolding(crate::specs::Computed::Lines::split_line))]
+fn split_line(input: &[u8]) -> Option<(&[u8], &[u8])>
+    ensures { option_map (λ parts. (parts.0.now, parts.1.now)) result ≡ split_line input.now }
 {
-    let end = line_end(input, from);
-    if input.len() <= end {
-        return 0;
+    let end = line_end(input)?;
+    if MAX_LINE < end {
+        return None;
     }
-    if 16384 < end - from {
-        return 0;
-    }
-    end + 1
+    Some((&input[..end], &input[end + 1..]))
 }
 
-pub fn four_lines(input: &[u8]) -> Lines
-    ensures { result ≡ lines_of input.now }
+#[tactic(auto, using(crate::proofs::LinesLaw::ending_more), unfolding(crate::specs::Computed::Lines::lines_of))]
+pub fn four_lines(input: &[u8]) -> Option<Lines<'_>>
+    ensures { option_map texts result ≡ lines_of input.now }
 {
-    let second = next_line(input, 0);
-    if second == 0 {
-        return Lines::Bad;
+    let (table, rest) = split_line(input)?;
+    let (configuration, rest) = split_line(rest)?;
+    let (log, rest) = split_line(rest)?;
+    let (limit, rest) = split_line(rest)?;
+    if !rest.is_empty() {
+        return None;
     }
-    let third = next_line(input, second);
-    if third == 0 {
-        return Lines::Bad;
-    }
-    let fourth = next_line(input, third);
-    if fourth == 0 {
-        return Lines::Bad;
-    }
-    if next_line(input, fourth) == input.len() {
-        return Lines::Four {
-            second,
-            third,
-            fourth,
-        };
-    }
-    Lines::Bad
+    Some(Lines {
+        table,
+        configuration,
+        log,
+        limit,
+    })
 }

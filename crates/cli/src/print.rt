@@ -1,37 +1,37 @@
 // The answer's text put into the output. Each routine is lent room enough.
-ghost use Rattle.std.specs.Prelude.{◌+◌, ◌*◌, ◌≤◌, length};
-ghost use Rattle.decimal.specs.Computed.Put.{Wrote};
+ghost use Rattle.std.specs.Prelude.{◌+◌, ◌*◌, length};
+ghost use Rattle.decimal.specs.Computed.Put.{HasRoom, Puts};
 ghost use Rattle.cli.specs.Output.{reproduced_text, refused_text, not_reproduced_text};
 
-use decimal::print::{put_byte, put_decimal, put_more_numbers, put_text, put_words};
+use decimal::{Item, Text};
 use minuska::Refusal;
 
 // `refused,` and the number.
-pub fn put_refusal(output: &mut [u8], refusal: Refusal) -> usize
-    requires { 64 ≤ length output.old }
-    ensures { Wrote output.old 0 (refused_text refusal) output.new result }
+pub fn put_refusal(text: &mut Text, refusal: Refusal)
+    requires { HasRoom text.old 64 }
+    ensures { Puts text.old (refused_text refusal) text.new }
 {
-    let at = put_text(output, 0, b"refused,");
-    let end = put_decimal(output, at, minuska::number(refusal));
-    put_byte(output, end, b'\n')
+    text.put_text(b"refused,");
+    u64::from(refusal).put(text);
+    text.put_text(b"\n");
 }
 
-pub fn put_not_reproduced(output: &mut [u8]) -> usize
-    requires { 64 ≤ length output.old }
-    ensures { Wrote output.old 0 not_reproduced_text output.new result }
+pub fn put_not_reproduced(text: &mut Text)
+    requires { HasRoom text.old 64 }
+    ensures { Puts text.old not_reproduced_text text.new }
 {
-    put_text(output, 0, b"not reproduced\n")
+    text.put_text(b"not reproduced\n");
 }
 
 // `reproduced,` the step count and the choices; then the words of a configuration.
-pub fn put_reproduced(output: &mut [u8], choices: &[u16], words: &[i64]) -> usize
-    requires { 64 + 21 * length choices.now + 22 * length words.now ≤ length output.old }
-    ensures { Wrote output.old 0 (reproduced_text choices.now words.now) output.new result }
+pub fn put_reproduced(text: &mut Text, choices: &[u16], words: &[i64])
+    requires { HasRoom text.old (64 + 21 * length choices.now + 21 * length words.now) }
+    ensures { Puts text.old (reproduced_text choices.now words.now) text.new }
 {
-    let at = put_text(output, 0, b"reproduced,");
-    let counted = put_decimal(output, at, choices.len() as u64);
-    let chosen = put_more_numbers(output, counted, choices);
-    let second = put_byte(output, chosen, b'\n');
-    let end = put_words(output, second, words);
-    put_byte(output, end, b'\n')
+    text.put_text(b"reproduced,");
+    (choices.len() as u64).put(text);
+    text.put_more(choices);
+    text.put_text(b"\n");
+    text.put_all(words);
+    text.put_text(b"\n");
 }

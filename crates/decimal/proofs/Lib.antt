@@ -6,11 +6,7 @@ pub mod SoundLaw
 pub mod LineLaw
 pub mod FieldsLaw
 pub mod PutLaw
--- The turns and returns of the routines, over plain variables.
+-- What the routines compute, step by step.
 pub mod NumberTurn
-pub mod ReaderTurn
-pub mod WordTurn
-pub mod LineTurn
-pub mod FieldsTurn
 pub mod PrintTurn
-pub mod WordsTurn
+pub mod LineTurn

@@ -1,22 +1,21 @@
 -- A line is read exactly if it is the text of numbers that fit the field, and then as these numbers.
 use mathlib.Core.Path.{◌≡◌, refl, sym, ap, ◌∙◌, subst}
 use mathlib.Core.Bool.{Bool, true, false, ◌&&◌, true≢false}
-use mathlib.Core.Option.{Option, none, some}
 use mathlib.Core.List.{List, [], ◌∷◌, ◌++◌, map}
 use Prim.Native.Nat.{ℕ, zero, suc, ◌+◌, ◌≤◌, ◌<◌}
 use native.Mathlib.Omega.{arith}
-use lib.IntN.{ℤ, pos, negsuc}
+use lib.IntN.{ℤ}
 use lib.Dec.{T, eqb, leb, leb→le}
 use lib.ListN.{length, drop, length-append}
 use borrow.Author.Tests.{eq-eqb, ne_eqb, eqb-true, eqb-false, le-leb}
 use Rattle.minuska.specs.Basics.{every}
-use Rattle.minuska.proofs.Tests.{and_left, and_right, and_both, true_of, provided_some}
-use Rattle.decimal.specs.declared.number.Number.{Number}
-use Rattle.decimal.specs.declared.number.Number.TheVariants.{Natural, Negative, Bad}
+use Rattle.minuska.proofs.Tests.{and_left, and_right, and_both, true_of}
+use Rattle.std.specs.Prelude.{Option, None, Some}
+use Rattle.decimal.specs.declared.number.Reading.{Reading}
 use Rattle.decimal.specs.Decimal.{whole_text}
 use Rattle.decimal.specs.Line.{continued, parted}
 use Rattle.decimal.specs.Computed.Number.{number_at}
-use Rattle.decimal.specs.Computed.Line.{item_of, end_of, Items, followed, then_rest, items_from, items, accepted}
+use Rattle.decimal.specs.Computed.Line.{kept, item_of, end_of, Items, followed, then_rest, items_from, items, accepted}
 use Rattle.decimal.proofs.ListLaw.{behind, behind_head, within}
 use Rattle.decimal.specs.Number.{number_of, Small, Ends, Standing}
 use Rattle.decimal.proofs.NumberLaw.{text_there, number_complete}
@@ -25,17 +24,18 @@ use Rattle.decimal.proofs.SoundLaw.{Sound, number_sound}
 -- what a field is: its numbers, their text, and which fit
 pub record FieldLaw {A : Type 0} (whole : A → ℤ) (text : A → List ℕ) (fits : A → Bool) (field : ℤ → Option A) : Type 0 where
   pub texts : (x : A) → text x ≡ whole_text (whole x)
-  pub sound : (z : ℤ) (x : A) → field z ≡ some x → (z ≡ whole x) × T (fits x)
-  pub complete : (x : A) → T (fits x) → field (whole x) ≡ some x
+  pub sound : (z : ℤ) (x : A) → field z ≡ Some x → (z ≡ whole x) × T (fits x)
+  pub complete : (x : A) → T (fits x) → field (whole x) ≡ Some x
   pub small : (x : A) → T (fits x) → Small (whole x)
 
-end_of_lem : (z : ℤ) (e : ℕ) → end_of (number_of z e) ≡ e
-end_of_lem (pos n) e = refl
-end_of_lem (negsuc n) e = refl
+-- a value that was kept passes the test
+pub kept_some : {A : Type 0} (b : Bool) (y x : A) → kept b y ≡ Some x → T b × (y ≡ x)
+kept_some true y x e = let f : y ≡ x = cc in (tt, f)
+kept_some false y x e = let z : ◌≡◌ {A = ℕ} 0 1 = cc in absurd (omega arith)
 
-item_of_lem : {A : Type 0} (field : ℤ → Option A) (z : ℤ) (e : ℕ) → item_of field (number_of z e) ≡ field z
-item_of_lem field (pos n) e = refl
-item_of_lem field (negsuc n) e = refl
+pub kept_true : {A : Type 0} (b : Bool) (x : A) → T b → kept b x ≡ Some x
+kept_true true x t = refl
+kept_true false x t = absurd t
 
 pub no_bytes : (l : List ℕ) → length l ≡ 0 → l ≡ []
 no_bytes [] e = refl
@@ -69,7 +69,7 @@ module _ {A : Type 0} (whole : A → ℤ) (text : A → List ℕ) (fits : A → 
       let others : rest ≡ parted (map text (y ∷ ys)) = sym (behind_head line e b rest g) ∙ i.stands in
       record { stands = s ∙ rw (n, others, law.texts x); each = and_both (fits x) (every fits (y ∷ ys)) t i.each; there = omega arith }
 
-  by_end : (at e : ℕ) (x : A) (rest : ℕ → Items A) → Standing line at (whole x) e → T (fits x) → IfWhole (suc e) (rest (suc e)) → IfWhole at (then_rest field line rest e (some x))
+  by_end : (at e : ℕ) (x : A) (rest : ℕ → Items A) → Standing line at (whole x) e → T (fits x) → IfWhole (suc e) (rest (suc e)) → IfWhole at (then_rest field line rest e (Some x))
   by_end at e x rest h t i = by_test (eqb e (length line)) refl
     where
       by_test : (b : Bool) → eqb e (length line) ≡ b → IfWhole at (followed b x (rest (suc e)))
@@ -77,15 +77,14 @@ module _ {A : Type 0} (whole : A → ℤ) (text : A → List ℕ) (fits : A → 
       by_test false p w = more_items at e x (rest (suc e)).read h.rest h.text h.parted h.ends t (eqb-false e (length line) p) (i w)
 
   by_item : (at e : ℕ) (z : ℤ) (o : Option A) (rest : ℕ → Items A) → field z ≡ o → Standing line at z e → IfWhole (suc e) (rest (suc e)) → IfWhole at (then_rest field line rest e o)
-  by_item at e z none rest q h i w = absurd (true≢false (sym w))
-  by_item at e z (some x) rest q h i w =
+  by_item at e z None rest q h i w = absurd (true≢false (sym w))
+  by_item at e z (Some x) rest q h i w =
       let s = law.sound z x q in
       by_end at e x rest (subst (λ (y : ℤ). Standing line at y e) s.0 h) s.1 i w
 
-  by_number : (at : ℕ) (n : Number) (rest : ℕ → Items A) → Sound line at n → ((e : ℕ) → IfWhole e (rest e)) → IfWhole at (then_rest field line rest (end_of n) (item_of field n))
-  by_number at (Natural n e) rest h i w = by_item at e (pos n) (field (pos n)) rest refl h (i (suc e)) w
-  by_number at (Negative n e) rest h i w = by_item at e (negsuc n) (field (negsuc n)) rest refl h (i (suc e)) w
-  by_number at Bad rest h i w = absurd (true≢false (sym w))
+  by_number : (at : ℕ) (n : Option Reading) (rest : ℕ → Items A) → Sound line at n → ((e : ℕ) → IfWhole e (rest e)) → IfWhole at (then_rest field line rest (end_of n) (item_of field n))
+  by_number at None rest h i w = absurd (true≢false (sym w))
+  by_number at (Some r) rest h i w = by_item at r.end r.number (field r.number) rest refl h (i (suc r.end)) w
 
   items_sound : (f at : ℕ) → IfWhole at (items_from field line f at)
   unfolding items_from
@@ -97,12 +96,12 @@ module _ {A : Type 0} (whole : A → ℤ) (text : A → List ℕ) (fits : A → 
   All xs = record { read = xs; whole = true }
 
   one_item : (f at : ℕ) (x : A) (rest : List ℕ) → drop at line ≡ text x ++ rest → T (fits x) → Ends rest
-      → items_from field line (suc f) at ≡ then_rest field line (λ e. items_from field line f e) (at + length (text x)) (some x)
+      → items_from field line (suc f) at ≡ then_rest field line (λ e. items_from field line f e) (at + length (text x)) (Some x)
   unfolding items_from
   one_item f at x rest s t n =
       let r : number_at line at ≡ number_of (whole x) (at + length (whole_text (whole x))) =
       number_complete line at (whole x) rest (s ∙ ap (λ (u : List ℕ). u ++ rest) (law.texts x)) (law.small x t) n in
-      rw (r, law.texts x, end_of_lem, item_of_lem, law.complete x t)
+      rw (r, law.texts x, law.complete x t)
 
   pub text_pos : (x : A) → 0 < length (text x)
   text_pos x = rw (law.texts x) (text_there (whole x))
@@ -124,17 +123,17 @@ module _ {A : Type 0} (whole : A → ℤ) (text : A → List ℕ) (fits : A → 
   parted_length [] = omega arith
   parted_length (x ∷ xs) = let i = parted_length xs in omega (arith, length-append (text x) (continued (map text xs)))
 
-  pub field_complete : (room : ℕ) (xs : List A) → line ≡ parted (map text xs) → T (every fits xs) → 1 ≤ length xs → length xs ≤ room → accepted room (items field line) ≡ some xs
+  pub field_complete : (room : ℕ) (xs : List A) → line ≡ parted (map text xs) → T (every fits xs) → 1 ≤ length xs → length xs ≤ room → accepted room (items field line) ≡ Some xs
   unfolding accepted items
   field_complete room [] s t p q = absurd (omega arith)
   field_complete room (x ∷ xs) s t p q =
       let long : length xs ≤ length line = rw (s, length-append) (omega (arith, parted_length xs)) in
       rw (items_complete xs x (length line) 0 long s t, le-leb (length (x ∷ xs)) room q)
 
-  pub field_sound : (room : ℕ) (xs : List A) → accepted room (items field line) ≡ some xs → (line ≡ parted (map text xs)) × T (every fits xs) × (1 ≤ length xs) × (length xs ≤ room)
+  pub field_sound : (room : ℕ) (xs : List A) → accepted room (items field line) ≡ Some xs → (line ≡ parted (map text xs)) × T (every fits xs) × (1 ≤ length xs) × (length xs ≤ room)
   unfolding accepted items
   field_sound room xs e =
       let i : Items A = items_from field line (suc (length line)) 0 in
-      let (t, l) = provided_some (i.whole && leb (length i.read) room) i.read xs e in
+      let (t, l) = kept_some (i.whole && leb (length i.read) room) i.read xs e in
       let s = items_sound (suc (length line)) 0 (true_of i.whole (and_left i.whole (leb (length i.read) room) t)) in
       rw (← l) (s.stands, s.each, s.there, leb→le (length i.read) room (and_right i.whole (leb (length i.read) room) t))

@@ -1,7 +1,6 @@
--- The turns and returns of a loop that reads the numbers of a line, for any field.
-use mathlib.Core.Path.{◌≡◌, refl, sym, ap, ◌∙◌}
+-- The turns and returns of the loop that reads the numbers of a line, for any field.
+use mathlib.Core.Path.{◌≡◌, refl, sym, ap, ◌∙◌, subst}
 use mathlib.Core.Bool.{Bool, true, false, ◌&&◌, true≢false}
-use mathlib.Core.Option.{Option, none, some, none-ne-some}
 use mathlib.Core.List.{List, [], ◌∷◌, ◌++◌, append-nil, append_assoc}
 use Prim.Native.Nat.{ℕ, zero, suc, ◌+◌, ◌-◌, ◌≤◌, ◌<◌}
 use native.Mathlib.Omega.{arith}
@@ -9,15 +8,18 @@ use native.Mathlib.Numerals.{add-one}
 use lib.IntN.{ℤ, pos, negsuc}
 use lib.Dec.{eqb, leb}
 use lib.ListN.{length, take, drop, set, length-append, length-set, take-append-drop}
-use lib.Seq.{take_all, take_at, take-suc-set, drop-set-lt, length-take-le, drop-length, drop-drop}
+use lib.Seq.{take_all, take_at, take-suc-set, drop-set-lt, length-take-le, drop-length, drop-drop, take-nil}
+use mir.Syntax.{w128}
+use mir.Val.{SFits, to_z, of_z}
+use mir.Facts.{to_z-of_z}
 use borrow.Author.Tests.{eq-eqb, ne_eqb, le-leb, lt-leb}
-use Rattle.minuska.specs.Basics.{provided}
+use Rattle.std.specs.Prelude.{Option, None, Some, option_map}
 use Rattle.minuska.specs.Slice.{write}
-use Rattle.decimal.specs.declared.number.Number.{Number}
-use Rattle.decimal.specs.declared.number.Number.TheVariants as N
-use Rattle.decimal.specs.declared.line.Count.TheVariants as C
+use Rattle.decimal.specs.declared.number.Reading.{Reading}
+use Rattle.decimal.specs.declared.reader.NumberReader.{NumberReader}
 use Rattle.decimal.specs.Computed.Number.{number_at}
-use Rattle.decimal.specs.Computed.Line.{item_of, end_of, Items, followed, then_rest, items_from, items, accepted, counted, ReadInto}
+use Rattle.decimal.specs.Number.{Small, place_behind, NextContract}
+use Rattle.decimal.specs.Computed.Line.{kept, item_of, end_of, Items, followed, then_rest, items_from, items, log_items, action_of, accepted, ReadInto}
 use Rattle.decimal.proofs.SoundLaw.{Sound, number_sound, stands_inside}
 
 -- ---- one number after the other
@@ -34,10 +36,9 @@ pub record Going {A : Type 0} (field : ℤ → Option A) (line : List ℕ) (old 
   pub kept : drop count out ≡ drop count old
 
 -- where a number that was read ends
-number_end : {A : Type 0} (field : ℤ → Option A) (line : List ℕ) (at : ℕ) (x : A) (n : Number) → Sound line at n → item_of field n ≡ some x → (at < end_of n) × (end_of n ≤ length line)
-number_end field line at x (N.Natural n e) h q = stands_inside line at (pos n) e h
-number_end field line at x (N.Negative n e) h q = stands_inside line at (negsuc n) e h
-number_end field line at x N.Bad h q = absurd (none-ne-some x q)
+number_end : {A : Type 0} (field : ℤ → Option A) (line : List ℕ) (at : ℕ) (x : A) (n : Option Reading) → Sound line at n → item_of field n ≡ Some x → (at < end_of n) × (end_of n ≤ length line)
+number_end field line at x None h q = let z : ◌≡◌ {A = ℕ} 0 1 = cc in absurd (omega arith)
+number_end field line at x (Some r) h q = stands_inside line at r.number r.end h
 
 -- some numbers, and all there are
 pub whole_there : {A : Type 0} (field : ℤ → Option A) (line : List ℕ) (f at : ℕ) → (items_from field line f at).whole ≡ true → 0 < length (items_from field line f at).read
@@ -50,15 +51,15 @@ whole_there {A} field line (suc f) at w = by_item (item_of field (number_at line
     by_end false x i = omega arith
 
     by_item : (o : Option A) → (then_rest field line (λ e. items_from field line f e) (end_of (number_at line at)) o).whole ≡ true → 0 < length (then_rest field line (λ e. items_from field line f e) (end_of (number_at line at)) o).read
-    by_item none w = absurd (true≢false (sym w))
-    by_item (some x) w = by_end (eqb (end_of (number_at line at)) (length line)) x (items_from field line f (suc (end_of (number_at line at))))
+    by_item None w = absurd (true≢false (sym w))
+    by_item (Some x) w = by_end (eqb (end_of (number_at line at)) (length line)) x (items_from field line f (suc (end_of (number_at line at))))
 
 -- more numbers than there is room for
-over_full : {A : Type 0} (room : ℕ) (i : Items A) → (i.whole ≡ true → room < length i.read) → C.Bad ≡ counted (accepted room i)
+over_full : {A : Type 0} (room : ℕ) (i : Items A) → (i.whole ≡ true → room < length i.read) → None ≡ option_map length (accepted room i)
 unfolding accepted
 over_full room i h = by_whole i.whole refl
   where
-    by_whole : (b : Bool) → i.whole ≡ b → C.Bad ≡ counted (provided (b && leb (length i.read) room) i.read)
+    by_whole : (b : Bool) → i.whole ≡ b → None ≡ option_map length (kept (b && leb (length i.read) room) i.read)
     by_whole true q = rw (lt-leb (length i.read) room (h q))
     by_whole false q = refl
 
@@ -84,13 +85,13 @@ module _ {A : Type 0} (field : ℤ → Option A) (line : List ℕ) (old : List A
     count_length = length-take-le count out g.room
 
     -- a fault
-    pub faults : item_of field (number_at line at) ≡ none → ReadInto (items field line) old out C.Bad
+    pub faults : item_of field (number_at line at) ≡ None → ReadInto (items field line) old out None
     unfolding items_from accepted
     faults e =
         rw (g.are, e)
         (record { answer = refl; leaves = leaves_all (take count out ++ []) out (rw (append-nil, count_length) (omega (arith, g.room, g.same))) (so_far ∙ rw append-nil) })
 
-    module _ (x : A) (end : ℕ) (p : count < length out) (e : item_of field (number_at line at) ≡ some x) (f : end_of (number_at line at) ≡ end) where
+    module _ (x : A) (end : ℕ) (p : count < length out) (e : item_of field (number_at line at) ≡ Some x) (f : end_of (number_at line at) ≡ end) where
       -- the slice with one more
       one_more : take (suc count) (set out count x) ≡ take count out ++ (x ∷ [])
       one_more = take-suc-set out count x p
@@ -108,12 +109,12 @@ module _ {A : Type 0} (field : ℤ → Option A) (line : List ℕ) (old : List A
       stored = sym (take-append-drop (suc count) (set out count x)) ∙ rw (one_more, kept_more, one_length)
 
       -- the last number
-      pub ends : end ≡ length line → ReadInto (items field line) old (set out count x) (C.Read (count + 1))
+      pub ends : end ≡ length line → ReadInto (items field line) old (set out count x) (Some (count + 1))
       unfolding items_from accepted
       ends q =
           rw (g.are, e, f, eq-eqb end (length line) q)
           (record {
-            answer = rw (one_length, le-leb (suc count) (length old) (omega (arith, g.same)), add-one) (ap C.Read (sym one_length));
+            answer = rw (one_length, le-leb (suc count) (length old) (omega (arith, g.same)), add-one) (ap Some (sym one_length));
             leaves = leaves_all (take count out ++ (x ∷ [])) (set out count x) (rw one_length (omega (arith, g.same))) stored;
           })
 
@@ -137,7 +138,7 @@ module _ {A : Type 0} (field : ℤ → Option A) (line : List ℕ) (old : List A
           }
 
     -- no room for another
-    pub full : length out ≤ count → ReadInto (items field line) old out C.Bad
+    pub full : length out ≤ count → ReadInto (items field line) old out None
     full p =
         let all : take count out ≡ out = take_all count out p in
         let rest : Items A = items_from field line (suc (length line - count)) at in
@@ -146,3 +147,69 @@ module _ {A : Type 0} (field : ℤ → Option A) (line : List ℕ) (old : List A
           answer = over_full (length old) (joined out rest) (λ w. rw length-append (omega (arith, whole_there field line (suc (length line - count)) at w, g.same)));
           leaves = only_kept out old rest.read g.same;
         })
+
+    -- ---- with the reader's next number
+    module _ (before after : NumberReader) (number : Option ℤ) (k : NextContract before number after) (of_line : before.line.now ≡ line) (of_place : before.at ≡ at) where
+      pub next_is : k.reading ≡ number_at line at
+      next_is = k.stands.answer ∙ rw (of_line, of_place)
+
+      by_reading : (o : Option Reading) → number ≡ option_map (λ r. r.number) o → number ≡ None → item_of field o ≡ None
+      by_reading None e f = refl
+      by_reading (Some r) e f = let z : ◌≡◌ {A = ℕ} 0 1 = cc in absurd (omega arith)
+
+      pub no_next : number ≡ None → ReadInto (items field line) old out None
+      no_next e = faults (ap (item_of field) (sym next_is) ∙ by_reading k.reading k.gives e)
+
+      module _ (z : ℤ) (e : number ≡ Some z) where
+        the_item : (o : Option Reading) → number ≡ option_map (λ r. r.number) o → item_of field o ≡ field z
+        the_item None q = let z : ◌≡◌ {A = ℕ} 0 1 = cc in absurd (omega arith)
+        the_item (Some r) q = let f : r.number ≡ z = cc in ap field f
+
+        item : item_of field (number_at line at) ≡ field z
+        item = ap (item_of field) (sym next_is) ∙ the_item k.reading k.gives
+
+        the_place : (o : Option Reading) → number ≡ option_map (λ r. r.number) o → place_behind before.at o ≡ suc (end_of o)
+        the_place None q = let z : ◌≡◌ {A = ℕ} 0 1 = cc in absurd (omega arith)
+        the_place (Some r) q = refl
+
+        place : after.at ≡ suc (end_of (number_at line at))
+        place = k.place ∙ (the_place k.reading k.gives ∙ ap (λ (o : Option Reading). suc (end_of o)) next_is)
+
+        small : (o : Option Reading) → number ≡ option_map (λ r. r.number) o → Sound line at o → Small z
+        small None q h = let z : ◌≡◌ {A = ℕ} 0 1 = cc in absurd (omega arith)
+        small (Some r) q h = let f : r.number ≡ z = cc in subst Small f h.small
+
+        fits : (y : ℤ) → Small y → SFits w128 y
+        fits (pos n) p = record { sfits = omega arith }
+        fits (negsuc n) p = record { sfits = omega arith }
+
+        -- the number is passed on by its bits
+        by_bits : to_z w128 (of_z w128 z) ≡ z
+        by_bits = to_z-of_z (fits z (small k.reading k.gives (subst (Sound line at) (sym next_is) (number_sound line at))))
+
+        passed : {o : Option A} → field (to_z w128 (of_z w128 z)) ≡ o → item_of field (number_at line at) ≡ o
+        passed f = item ∙ (ap field (sym by_bits) ∙ f)
+
+        pub no_item : field (to_z w128 (of_z w128 z)) ≡ None → ReadInto (items field line) old out None
+        no_item f = faults (passed f)
+
+        pub last_item : (x : A) → field (to_z w128 (of_z w128 z)) ≡ Some x → count < length out → length line < after.at → ReadInto (items field line) old (set out count x) (Some (count + 1))
+        last_item x f p q =
+            let (far, near) = number_end field line at x (number_at line at) (number_sound line at) (passed f) in
+            ends x (end_of (number_at line at)) p (passed f) refl (omega (arith, place))
+
+        pub next_item : (x : A) → field (to_z w128 (of_z w128 z)) ≡ Some x → count < length out → after.at ≤ length line → Going field line old (set out count x) after.at (count + 1)
+        next_item x f p q =
+            subst (λ (n : ℕ). Going field line old (set out count x) n (count + 1)) (sym (place ∙ sym (add-one (end_of (number_at line at)))))
+            (goes x (end_of (number_at line at)) p (passed f) refl (λ h. omega (arith, place, h)))
+
+-- ---- an empty log line, and another
+pub log_empty : (line : List ℕ) (old : List ℕ) → length line ≡ 0 → ReadInto (log_items line) old old (Some 0)
+unfolding log_items accepted
+log_empty [] old p = record { answer = rw (le-leb 0 (length old) (omega arith)); leaves = rw take-nil }
+log_empty (b ∷ bs) old p = absurd (omega arith)
+
+pub log_other : (line old out : List ℕ) (r : Option ℕ) → 0 < length line → ReadInto (items action_of line) old out r → ReadInto (log_items line) old out r
+unfolding log_items
+log_other [] old out r p h = absurd (omega arith)
+log_other (b ∷ bs) old out r p h = h

@@ -11,48 +11,48 @@ use lib.Dec.{ltb}
 use lib.ListN.{length, drop, get_or, length-append, length-drop}
 use lib.Seq.{get_or-drop}
 use borrow.Author.Tests.{ltb-false, lt-ltb, le-ltb, ne_eqb}
-use Rattle.decimal.specs.declared.number.Number.TheVariants.{Natural}
+use Rattle.std.specs.Prelude.{None, Some}
 use Rattle.decimal.specs.Decimal.{digits, decimal, whole_text}
 use Rattle.decimal.specs.Number.{number_of, Small, Ends}
-use Rattle.decimal.specs.Computed.Number.{digit_of, digits_from, natural_from, negated, signed_from, is_end, ended_in, number_at}
+use Rattle.decimal.specs.Computed.Number.{digit_of, digits_from, natural_from, plain, negated, signed_from, is_end, ended_in, number_at}
 use Rattle.decimal.proofs.ListLaw.{behind, within}
 use Rattle.decimal.proofs.DecimalLaw.{digits_zero, digits_less, decimal_is, decimal_positive, decimal_zero, by_tenths, Head, head}
 
 -- ---- digits
-pub digit_of_lem : (b : ℕ) → 48 ≤ b → b ≤ 57 → digit_of b ≡ b - 48
+pub a_digit : (b : ℕ) → 48 ≤ b → b ≤ 57 → digit_of b ≡ Some (b - 48)
 unfolding digit_of
-digit_of_lem b p q = rw (le-ltb b 48, le-ltb 57 b)
+a_digit b p q = rw (le-ltb b 48, le-ltb 57 b)
 
-pub no_digit : (b : ℕ) → (b < 48) → digit_of b ≡ 10
+pub below_digits : (b : ℕ) → b < 48 → digit_of b ≡ None
 unfolding digit_of
-no_digit b p = rw (lt-ltb b 48)
+below_digits b p = rw (lt-ltb b 48)
 
 -- a byte with a digit is that digit's
-pub digit_byte : (b : ℕ) → digit_of b ≤ 9 → b ≡ 48 + digit_of b
+pub digit_byte : (b d : ℕ) → digit_of b ≡ Some d → (b ≡ 48 + d) × (d < 10)
 unfolding digit_of
-digit_byte b p = go (ltb b 48) (ltb 57 b) refl refl p
+digit_byte b d p = go (ltb b 48) (ltb 57 b) refl refl p
   where
-    go : (s t : Bool) → ltb b 48 ≡ s → ltb 57 b ≡ t → cond s 10 (cond t 10 (b - 48)) ≤ 9 → b ≡ 48 + cond s 10 (cond t 10 (b - 48))
-    go true t e f h = absurd (omega arith)
-    go false true e f h = absurd (omega arith)
-    go false false e f h = omega (arith, ltb-false b 48 e, ltb-false 57 b f)
+    go : (s t : Bool) → ltb b 48 ≡ s → ltb 57 b ≡ t → cond s None (cond t None (Some (b - 48))) ≡ Some d → (b ≡ 48 + d) × (d < 10)
+    go true t e f h = let z : ◌≡◌ {A = ℕ} 0 1 = cc in absurd (omega arith)
+    go false true e f h = let z : ◌≡◌ {A = ℕ} 0 1 = cc in absurd (omega arith)
+    go false false e f h = let is : b - 48 ≡ d = cc in (omega (arith, ltb-false b 48 e, is), omega (arith, ltb-false b 48 e, ltb-false 57 b f, is))
 
-digit_small : (d : ℕ) → d < 10 → digit_of (48 + d) ≡ d
-digit_small d p = digit_of_lem (48 + d) (omega arith) (omega arith) ∙ omega arith
+digit_small : (d : ℕ) → d < 10 → digit_of (48 + d) ≡ Some d
+digit_small d p = a_digit (48 + d) (omega arith) (omega arith) ∙ ap Some (omega arith)
 
 -- one digit more; no digit
-step : (n at b d : ℕ) (bs : List ℕ) → digit_of b ≡ d → d < 10 → n * 10 + d < 2 ^ 64 → digits_from n at (b ∷ bs) ≡ digits_from (n * 10 + d) (suc at) bs
+step : (n at b d : ℕ) (bs : List ℕ) → digit_of b ≡ Some d → n * 10 + d < 2 ^ 64 → digits_from n at (b ∷ bs) ≡ digits_from (n * 10 + d) (suc at) bs
 unfolding digits_from
-step n at b d bs e p q = rw (e, le-ltb 9 d (omega arith), lt-ltb (n * 10 + d) (2 ^ 64))
+step n at b d bs e q = rw (e, lt-ltb (n * 10 + d) (2 ^ 64))
 
 abbrev Stops : List ℕ → Type 0
 Stops [] = Unit {0}
-Stops (b ∷ bs) = 9 < digit_of b
+Stops (b ∷ bs) = digit_of b ≡ None
 
-stop : (n at : ℕ) (bs : List ℕ) → Stops bs → digits_from n at bs ≡ Natural n at
+stop : (n at : ℕ) (bs : List ℕ) → Stops bs → digits_from n at bs ≡ Some (n, at)
 unfolding digits_from
 stop n at [] h = refl
-stop n at (b ∷ bs) h = rw (lt-ltb 9 (digit_of b))
+stop n at (b ∷ bs) h = rw h
 
 -- ---- complete: the text of a number is read as the number
 read_more : (n at : ℕ) (rest : List ℕ) → n < 2 ^ 64 → 0 < n →
@@ -64,7 +64,7 @@ read_more n at rest p q h =
     ap (λ (t : List ℕ). digits_from 0 at (t ++ rest)) (digits_less n q) ∙
     (ap (digits_from 0 at) (append_assoc (digits (n / 10)) ((48 + n % 10) ∷ []) rest) ∙
     (h ((48 + n % 10) ∷ rest) ∙
-    (step (n / 10) (at + length (digits (n / 10))) (48 + n % 10) (n % 10) rest (digit_small (n % 10) (omega arith)) (omega arith) (omega arith) ∙
+    (step (n / 10) (at + length (digits (n / 10))) (48 + n % 10) (n % 10) rest (digit_small (n % 10) (omega arith)) (omega arith) ∙
     (ap (λ (m : ℕ). digits_from m (suc (at + length (digits (n / 10)))) rest) whole ∙ ap (λ (e : ℕ). digits_from n e rest) moved))))
 
 read_digits : (at n : ℕ) → n < 2 ^ 64 → (rest : List ℕ) → digits_from 0 at (digits n ++ rest) ≡ digits_from n (at + length (digits n)) rest
@@ -77,15 +77,15 @@ read_digits at =
 first_digit : (at c : ℕ) (bs : List ℕ) → 48 < c → c ≤ 57 → natural_from at (c ∷ bs) ≡ digits_from 0 at (c ∷ bs)
 unfolding natural_from
 first_digit at c bs p q =
-    let d : digit_of c ≡ c - 48 = digit_of_lem c (omega arith) q in
+    let d : digit_of c ≡ Some (c - 48) = a_digit c (omega arith) q in
     let nought : 0 * 10 + (c - 48) ≡ c - 48 = omega arith in
-    rw (step 0 at c (c - 48) bs d (omega arith) (omega arith), nought, d, ne_eqb (c - 48) 0 (λ z. omega arith), le-ltb 9 (c - 48) (omega arith))
+    rw (step 0 at c (c - 48) bs d (omega arith), nought, d, ne_eqb (c - 48) 0 (λ z. omega arith))
 
-first_zero : (at : ℕ) (bs : List ℕ) → natural_from at (48 ∷ bs) ≡ Natural 0 (suc at)
+first_zero : (at : ℕ) (bs : List ℕ) → natural_from at (48 ∷ bs) ≡ Some (0, suc at)
 unfolding natural_from digit_of
 first_zero at bs = refl
 
-read_natural : (at n : ℕ) (rest : List ℕ) → n < 2 ^ 64 → Stops rest → natural_from at (decimal n ++ rest) ≡ Natural n (at + length (decimal n))
+read_natural : (at n : ℕ) (rest : List ℕ) → n < 2 ^ 64 → Stops rest → natural_from at (decimal n ++ rest) ≡ Some (n, at + length (decimal n))
 read_natural at zero rest p h = rw (decimal_zero, first_zero at rest, add-one)
 read_natural at (suc n) rest p h =
     let f : Head (suc n) = head (suc n) (omega arith) in
@@ -100,15 +100,15 @@ decimal_head : (n : ℕ) → (c : ℕ) × (cs : List ℕ) × (decimal n ≡ c �
 decimal_head zero = (48, [], decimal_zero, omega arith)
 decimal_head (suc n) = let f : Head (suc n) = head (suc n) (omega arith) in (f.first, f.others, decimal_positive (suc n) (omega arith) ∙ f.is, omega (arith, f.low))
 
-plain : (at n : ℕ) (rest : List ℕ) → signed_from at (decimal n ++ rest) ≡ natural_from at (decimal n ++ rest)
+no_minus : (at n : ℕ) (rest : List ℕ) → signed_from at (decimal n ++ rest) ≡ plain (natural_from at (decimal n ++ rest))
 unfolding signed_from
-plain at n rest =
+no_minus at n rest =
     let (c, cs, e, p) = decimal_head n in
     rw (e, ne_eqb c 45 (λ z. omega arith))
 
 read_signed : (at : ℕ) (z : ℤ) (rest : List ℕ) → Small z → Stops rest → signed_from at (whole_text z ++ rest) ≡ number_of z (at + length (whole_text z))
 unfolding signed_from negated whole_text
-read_signed at (pos n) rest p h = plain at n rest ∙ read_natural at n rest p h
+read_signed at (pos n) rest p h = no_minus at n rest ∙ ap plain (read_natural at n rest p h)
 read_signed at (negsuc n) rest p h =
     let less : suc n - 1 ≡ n = omega arith in
     let moved : suc at + length (decimal (suc n)) ≡ at + suc (length (decimal (suc n))) = omega arith in
@@ -116,7 +116,7 @@ read_signed at (negsuc n) rest p h =
 
 ends_stop : (rest : List ℕ) → Ends rest → Stops rest
 ends_stop [] h = tt
-ends_stop (b ∷ bs) h = rw (no_digit b (omega arith)) (omega arith)
+ends_stop (b ∷ bs) h = below_digits b (omega arith)
 
 ends_here : (line : List ℕ) (e : ℕ) (rest : List ℕ) → e ≤ length line → drop e line ≡ rest → Ends rest → is_end line e ≡ true
 unfolding is_end
@@ -130,8 +130,7 @@ ends_here line e (b ∷ bs) p q h =
 
 ended : (line : List ℕ) (z : ℤ) (e : ℕ) → is_end line e ≡ true → ended_in line (number_of z e) ≡ number_of z e
 unfolding ended_in
-ended line (pos n) e h = rw h
-ended line (negsuc n) e h = rw h
+ended line z e h = rw h
 
 pub text_there : (z : ℤ) → 0 < length (whole_text z)
 unfolding whole_text

@@ -1,12 +1,12 @@
--- Texts put one behind the other, and a byte put before a text.
+-- Texts put one behind the other.
 use mathlib.Core.Path.{◌≡◌, refl, sym, ap, ◌∙◌}
 use mathlib.Core.List.{List, [], ◌∷◌, ◌++◌, map, append-nil, append_assoc}
-use Prim.Native.Nat.{ℕ, suc, ◌+◌, ◌≤◌, ◌<◌}
+use Prim.Native.Nat.{ℕ, ◌+◌, ◌≤◌, ◌<◌}
 use native.Mathlib.Omega.{arith}
 use native.Mathlib.Nat.{add-zero, zero-add}
 use native.Mathlib.Numerals.{add-one}
-use lib.ListN.{length, take, drop, get_or, set, length-append, take-append-drop}
-use lib.Seq.{drop-drop, take-suc, take_at, drop_at, set_split, set_at, length-take-le}
+use lib.ListN.{length, take, drop, get_or, length-append, take-append-drop}
+use lib.Seq.{drop-drop, take-suc, take_at, drop_at, length-take-le}
 use Rattle.minuska.specs.Slice.{write}
 use Rattle.decimal.specs.Line.{continued}
 use Rattle.decimal.specs.Computed.Put.{put, Wrote}
@@ -29,21 +29,6 @@ put_then old at t u p =
     (ap (drop (length u)) (drop_at (take at old ++ t) (drop (at + length t) old) (at + length t) l) ∙
     (drop-drop (length u) (at + length t) old ∙ ap (λ (k : ℕ). drop k old) moved))) in
     rw (front, back) (simp append_assoc)
-
--- a byte; a byte before a text
-pub put_byte : (old : List ℕ) (at b : ℕ) → at < length old → set old at b ≡ put old at (b ∷ [])
-unfolding put
-put_byte old at b p = set_split old at b p ∙ rw add-one
-
-pub put_before : (old : List ℕ) (at b : ℕ) (t : List ℕ) → at + 1 + length t ≤ length old → set (put old (at + 1) t) at b ≡ put old at (b ∷ t)
-unfolding put
-put_before old at b t p =
-    let rest : List ℕ = t ++ drop (at + 1 + length t) old in
-    let was : take (at + 1) old ≡ take at old ++ (get_or old at 0 ∷ []) = ap (λ (k : ℕ). take k old) (add-one at) ∙ take-suc old at 0 (omega arith) in
-    let moved : at + 1 + length t ≡ at + suc (length t) = omega arith in
-    ap (λ (l : List ℕ). set (l ++ rest) at b) was ∙
-    (ap (λ (l : List ℕ). set l at b) (append_assoc (take at old) (get_or old at 0 ∷ []) rest) ∙
-    (set_at (take at old) (get_or old at 0) rest b at (length-take-le at old (omega arith)) ∙ ap (λ (k : ℕ). take at old ++ (b ∷ (t ++ drop k old))) moved))
 
 -- ---- what a routine wrote
 pub wrote_none : (old : List ℕ) (at : ℕ) → Wrote old at [] old at

@@ -9,12 +9,12 @@ use lib.IntN.{ℤ, pos, negsuc}
 use lib.Dec.{eqb, ltb}
 use lib.ListN.{length, drop, get_or, length-drop}
 use lib.Seq.{get_or-drop}
-use borrow.Author.Tests.{ltb-true, ltb-false, lt-ltb, eqb-true, eqb-false}
-use Rattle.decimal.specs.declared.number.Number.{Number}
-use Rattle.decimal.specs.declared.number.Number.TheVariants.{Natural, Negative, Bad}
+use borrow.Author.Tests.{ltb-true, lt-ltb, eqb-true, eqb-false}
+use Rattle.std.specs.Prelude.{Option, None, Some}
+use Rattle.decimal.specs.declared.number.Reading.{Reading}
 use Rattle.decimal.specs.Decimal.{digits, decimal, whole_text}
 use Rattle.decimal.specs.Number.{number_of, Small, Ends, Standing, NumberContract}
-use Rattle.decimal.specs.Computed.Number.{digit_of, digits_from, natural_from, negated, signed_from, is_end, ended_in, number_at}
+use Rattle.decimal.specs.Computed.Number.{digit_of, by_digit, digits_from, natural_from, plain, negated, signed_from, is_end, ended_in, number_at}
 use Rattle.decimal.proofs.ListLaw.{behind, within}
 use Rattle.decimal.proofs.DecimalLaw.{digits_zero, digits_more, decimal_positive, decimal_zero}
 use Rattle.decimal.proofs.NumberLaw.{digit_byte, text_there, number_complete}
@@ -29,16 +29,16 @@ record DigitsRead (n at : ℕ) (bs : List ℕ) (m e : ℕ) : Type 0 where
   pub small : m < 2 ^ 64
   pub positive : 0 < m
 
-abbrev Digits : ℕ → ℕ → List ℕ → Number → Type 0
-Digits n at bs (Natural m e) = DigitsRead n at bs m e
-Digits n at bs (Negative m e) = ⊥
-Digits n at bs Bad = Unit {0}
+abbrev Digits : ℕ → ℕ → List ℕ → Option (ℕ × ℕ) → Type 0
+Digits n at bs None = Unit {0}
+Digits n at bs (Some p) = DigitsRead n at bs p.0 p.1
 
-none_read : (n at : ℕ) (bs : List ℕ) → 0 < n → n < 2 ^ 64 → Digits n at bs (Natural n at)
+none_read : (n at : ℕ) (bs : List ℕ) → 0 < n → n < 2 ^ 64 → Digits n at bs (Some (n, at))
 none_read n at bs p q = record { read = []; rest = bs; split = refl; joined = append-nil (digits n); end = sym (add-zero at); small = q; positive = p }
 
-one_read : (n at b : ℕ) (bs : List ℕ) (x : Number) → digit_of b < 10 → 0 < n → Digits (n * 10 + digit_of b) (suc at) bs x → Digits n at (b ∷ bs) x
-one_read n at b bs (Natural m e) p q h =
+one_read : (n at b d : ℕ) (bs : List ℕ) (x : Option (ℕ × ℕ)) → digit_of b ≡ Some d → 0 < n → Digits (n * 10 + d) (suc at) bs x → Digits n at (b ∷ bs) x
+one_read n at b d bs None p q h = tt
+one_read n at b d bs (Some x) p q h =
     record {
       read = b ∷ h.read;
       rest = h.rest;
@@ -49,22 +49,26 @@ one_read n at b bs (Natural m e) p q h =
       positive = h.positive;
     }
   where
-    joins : digits n ++ (b ∷ []) ≡ digits (n * 10 + digit_of b)
-    joins = ap (λ (c : ℕ). digits n ++ (c ∷ [])) (digit_byte b (omega arith)) ∙ sym (digits_more n (digit_of b) p (omega arith))
-one_read n at b bs (Negative m e) p q h = h
-one_read n at b bs Bad p q h = tt
+    is : (b ≡ 48 + d) × (d < 10)
+    is = digit_byte b d p
+
+    joins : digits n ++ (b ∷ []) ≡ digits (n * 10 + d)
+    joins = ap (λ (c : ℕ). digits n ++ (c ∷ [])) is.0 ∙ sym (digits_more n d is.1 (omega arith))
 
 digits_sound : (bs : List ℕ) (n at : ℕ) → 0 < n → n < 2 ^ 64 → Digits n at bs (digits_from n at bs)
 unfolding digits_from
 digits_sound [] n at p q = none_read n at [] p q
-digits_sound (b ∷ bs) n at p q = by_tests (ltb 9 (digit_of b)) (ltb (n * 10 + digit_of b) (2 ^ 64)) refl refl (λ h. digits_sound bs (n * 10 + digit_of b) (suc at) (omega arith) h)
+digits_sound (b ∷ bs) n at p q = by_byte (digit_of b) refl (λ d h. digits_sound bs (n * 10 + d) (suc at) (omega arith) h)
   where
-    by_tests : (s t : Bool) → ltb 9 (digit_of b) ≡ s → ltb (n * 10 + digit_of b) (2 ^ 64) ≡ t
-        → (n * 10 + digit_of b < 2 ^ 64 → Digits (n * 10 + digit_of b) (suc at) bs (digits_from (n * 10 + digit_of b) (suc at) bs))
-        → Digits n at (b ∷ bs) (cond s (Natural n at) (cond t (digits_from (n * 10 + digit_of b) (suc at) bs) Bad))
-    by_tests true t e f i = none_read n at (b ∷ bs) p q
-    by_tests false true e f i = one_read n at b bs (digits_from (n * 10 + digit_of b) (suc at) bs) (omega (arith, ltb-false 9 (digit_of b) e)) p (i (ltb-true (n * 10 + digit_of b) (2 ^ 64) f))
-    by_tests false false e f i = tt
+    by_test : (d : ℕ) (t : Bool) → digit_of b ≡ Some d → ltb (n * 10 + d) (2 ^ 64) ≡ t → (n * 10 + d < 2 ^ 64 → Digits (n * 10 + d) (suc at) bs (digits_from (n * 10 + d) (suc at) bs))
+        → Digits n at (b ∷ bs) (cond t (digits_from (n * 10 + d) (suc at) bs) None)
+    by_test d true e f i = one_read n at b d bs (digits_from (n * 10 + d) (suc at) bs) e p (i (ltb-true (n * 10 + d) (2 ^ 64) f))
+    by_test d false e f i = tt
+
+    by_byte : (o : Option ℕ) → digit_of b ≡ o → ((d : ℕ) → n * 10 + d < 2 ^ 64 → Digits (n * 10 + d) (suc at) bs (digits_from (n * 10 + d) (suc at) bs))
+        → Digits n at (b ∷ bs) (by_digit o (Some (n, at)) (λ d. cond (ltb (n * 10 + d) (2 ^ 64)) (digits_from (n * 10 + d) (suc at) bs) None))
+    by_byte None e i = none_read n at (b ∷ bs) p q
+    by_byte (Some d) e i = by_test d (ltb (n * 10 + d) (2 ^ 64)) e refl (i d)
 
 record Read (at : ℕ) (bs : List ℕ) (z : ℤ) (e : ℕ) : Type 0 where
   pub rest : List ℕ
@@ -72,83 +76,80 @@ record Read (at : ℕ) (bs : List ℕ) (z : ℤ) (e : ℕ) : Type 0 where
   pub end : e ≡ at + length (whole_text z)
   pub small : Small z
 
-abbrev Unsigned : ℕ → List ℕ → Number → Type 0
-Unsigned at bs (Natural n e) = Read at bs (pos n) e
-Unsigned at bs (Negative n e) = ⊥
-Unsigned at bs Bad = Unit {0}
+abbrev Unsigned : ℕ → List ℕ → Option (ℕ × ℕ) → Type 0
+Unsigned at bs None = Unit {0}
+Unsigned at bs (Some p) = Read at bs (pos p.0) p.1
 
-abbrev Signed : ℕ → List ℕ → Number → Type 0
-Signed at bs (Natural n e) = Read at bs (pos n) e
-Signed at bs (Negative n e) = Read at bs (negsuc n) e
-Signed at bs Bad = Unit {0}
+abbrev Signed : ℕ → List ℕ → Option Reading → Type 0
+Signed at bs None = Unit {0}
+Signed at bs (Some r) = Read at bs r.number r.end
 
 -- behind a first digit
-begun : (at b : ℕ) (bs : List ℕ) (x : Number) → b ∷ [] ≡ digits (digit_of b) → Digits (digit_of b) (suc at) bs x → Unsigned at (b ∷ bs) x
+begun : (at b d : ℕ) (bs : List ℕ) (x : Option (ℕ × ℕ)) → b ∷ [] ≡ digits d → Digits d (suc at) bs x → Unsigned at (b ∷ bs) x
 unfolding whole_text
-begun at b bs (Natural m e) d h =
-    let all : b ∷ h.read ≡ decimal m = ap (λ (t : List ℕ). t ++ h.read) d ∙ (h.joined ∙ sym (decimal_positive m h.positive)) in
+begun at b d bs None q h = tt
+begun at b d bs (Some p) q h =
+    let all : b ∷ h.read ≡ decimal p.0 = ap (λ (t : List ℕ). t ++ h.read) q ∙ (h.joined ∙ sym (decimal_positive p.0 h.positive)) in
     record {
       rest = h.rest;
       split = ap (λ (t : List ℕ). b ∷ t) h.split ∙ ap (λ (t : List ℕ). t ++ h.rest) all;
       end = h.end ∙ (rw (← all) (omega arith));
       small = h.small;
     }
-begun at b bs (Negative m e) d h = h
-begun at b bs Bad d h = tt
 
-one_digit : (b : ℕ) → digit_of b < 10 → 0 < digit_of b → b ∷ [] ≡ digits (digit_of b)
-one_digit b p q =
-    ap (λ (c : ℕ). c ∷ []) (digit_byte b (omega arith)) ∙
-    (ap (λ (t : List ℕ). t ++ ((48 + digit_of b) ∷ [])) (sym digits_zero) ∙
-    (sym (digits_more 0 (digit_of b) p (omega arith)) ∙ ap digits (omega arith)))
+one_digit : (b d : ℕ) → b ≡ 48 + d → d < 10 → 0 < d → b ∷ [] ≡ digits d
+one_digit b d e p q =
+    ap (λ (c : ℕ). c ∷ []) e ∙
+    (ap (λ (t : List ℕ). t ++ ((48 + d) ∷ [])) (sym digits_zero) ∙
+    (sym (digits_more 0 d p (omega arith)) ∙ ap digits (omega arith)))
 
 natural_sound : (at : ℕ) (bs : List ℕ) → Unsigned at bs (natural_from at bs)
 unfolding natural_from whole_text
 natural_sound at [] = tt
-natural_sound at (b ∷ bs) = by_tests (eqb (digit_of b) 0) (ltb 9 (digit_of b)) refl refl
+natural_sound at (b ∷ bs) = by_byte (digit_of b) refl
   where
-    by_tests : (s t : Bool) → eqb (digit_of b) 0 ≡ s → ltb 9 (digit_of b) ≡ t → Unsigned at (b ∷ bs) (cond s (Natural 0 (suc at)) (cond t Bad (digits_from (digit_of b) (suc at) bs)))
-    by_tests true t e f =
-        let z : digit_of b ≡ 0 = eqb-true (digit_of b) 0 e in
-        let b0 : b ≡ 48 = digit_byte b (omega arith) ∙ omega arith in
+    by_test : (d : ℕ) (t : Bool) → digit_of b ≡ Some d → eqb d 0 ≡ t → Unsigned at (b ∷ bs) (cond t (Some (0, suc at)) (digits_from d (suc at) bs))
+    by_test d true e f =
+        let z : d ≡ 0 = eqb-true d 0 f in
+        let b0 : b ≡ 48 = (digit_byte b d e).0 ∙ omega arith in
         record { rest = bs; split = rw (decimal_zero, b0); end = rw decimal_zero (omega arith); small = omega arith }
-    by_tests false true e f = tt
-    by_tests false false e f =
-        let small : digit_of b < 10 = omega (arith, ltb-false 9 (digit_of b) f) in
-        let positive : 0 < digit_of b = omega (arith, eqb-false (digit_of b) 0 e) in
-        begun at b bs (digits_from (digit_of b) (suc at) bs) (one_digit b small positive) (digits_sound bs (digit_of b) (suc at) positive (omega arith))
+    by_test d false e f =
+        let is = digit_byte b d e in
+        let positive : 0 < d = omega (arith, eqb-false d 0 f) in
+        begun at b d bs (digits_from d (suc at) bs) (one_digit b d is.0 is.1 positive) (digits_sound bs d (suc at) positive (omega (arith, is.1)))
 
-unsigned : (at : ℕ) (bs : List ℕ) (x : Number) → Unsigned at bs x → Signed at bs x
-unsigned at bs (Natural n e) h = h
-unsigned at bs (Negative n e) h = absurd h
-unsigned at bs Bad h = tt
+    by_byte : (o : Option ℕ) → digit_of b ≡ o → Unsigned at (b ∷ bs) (by_digit o None (λ d. cond (eqb d 0) (Some (0, suc at)) (digits_from d (suc at) bs)))
+    by_byte None e = tt
+    by_byte (Some d) e = by_test d (eqb d 0) e refl
 
-minus : (at b : ℕ) (bs : List ℕ) (x : Number) → b ≡ 45 → Unsigned (suc at) bs x → Signed at (b ∷ bs) (negated x)
+unsigned : (at : ℕ) (bs : List ℕ) (x : Option (ℕ × ℕ)) → Unsigned at bs x → Signed at bs (plain x)
+unsigned at bs None h = tt
+unsigned at bs (Some p) h = h
+
+minus : (at b : ℕ) (bs : List ℕ) (x : Option (ℕ × ℕ)) → b ≡ 45 → Unsigned (suc at) bs x → Signed at (b ∷ bs) (negated x)
 unfolding negated whole_text
-minus at b bs (Natural n e) q h = by_test n (eqb n 0) refl h
+minus at b bs None q h = tt
+minus at b bs (Some p) q h = by_test p.0 (eqb p.0 0) refl h
   where
-    by_test : (n : ℕ) (t : Bool) → eqb n 0 ≡ t → Read (suc at) bs (pos n) e → Signed at (b ∷ bs) (cond t Bad (Negative (n - 1) e))
+    by_test : (n : ℕ) (t : Bool) → eqb n 0 ≡ t → Read (suc at) bs (pos n) p.1 → Signed at (b ∷ bs) (cond t None (Some (record { number = negsuc (n - 1); end = p.1 })))
     by_test n true f h = tt
     by_test zero false f h = absurd (eqb-false 0 0 f refl)
     by_test (suc n) false f h =
         let less : suc n - 1 ≡ n = omega arith in
         rw less (record { rest = h.rest; split = rw (q, h.split); end = h.end ∙ omega arith; small = h.small })
-minus at b bs (Negative n e) q h = absurd h
-minus at b bs Bad q h = tt
 
 signed_sound : (at : ℕ) (bs : List ℕ) → Signed at bs (signed_from at bs)
 unfolding signed_from
 signed_sound at [] = tt
 signed_sound at (b ∷ bs) = by_test (eqb b 45) refl
   where
-    by_test : (t : Bool) → eqb b 45 ≡ t → Signed at (b ∷ bs) (cond t (negated (natural_from (suc at) bs)) (natural_from at (b ∷ bs)))
+    by_test : (t : Bool) → eqb b 45 ≡ t → Signed at (b ∷ bs) (cond t (negated (natural_from (suc at) bs)) (plain (natural_from at (b ∷ bs))))
     by_test true e = minus at b bs (natural_from (suc at) bs) (eqb-true b 45 e) (natural_sound (suc at) bs)
     by_test false e = unsigned at (b ∷ bs) (natural_from at (b ∷ bs)) (natural_sound at (b ∷ bs))
 
-abbrev pub Sound : List ℕ → ℕ → Number → Type 0
-Sound line at (Natural n e) = Standing line at (pos n) e
-Sound line at (Negative n e) = Standing line at (negsuc n) e
-Sound line at Bad = Unit {0}
+abbrev pub Sound : List ℕ → ℕ → Option Reading → Type 0
+Sound line at None = Unit {0}
+Sound line at (Some r) = Standing line at r.number r.end
 
 behind_ends : (line : List ℕ) (e : ℕ) (rest : List ℕ) → drop e line ≡ rest → is_end line e ≡ true → Ends rest
 unfolding is_end
@@ -169,19 +170,14 @@ found line at z e t h =
       small = h.small;
     }
 
-number_ended : (line : List ℕ) (at : ℕ) (x : Number) → Signed at (drop at line) x → Sound line at (ended_in line x)
+number_ended : (line : List ℕ) (at : ℕ) (x : Option Reading) → Signed at (drop at line) x → Sound line at (ended_in line x)
 unfolding ended_in
-number_ended line at (Natural n e) h = by_test (is_end line e) refl
+number_ended line at None h = tt
+number_ended line at (Some r) h = by_test (is_end line r.end) refl
   where
-    by_test : (t : Bool) → is_end line e ≡ t → Sound line at (cond t (Natural n e) Bad)
-    by_test true f = found line at (pos n) e f h
+    by_test : (t : Bool) → is_end line r.end ≡ t → Sound line at (cond t (Some r) None)
+    by_test true f = found line at r.number r.end f h
     by_test false f = tt
-number_ended line at (Negative n e) h = by_test (is_end line e) refl
-  where
-    by_test : (t : Bool) → is_end line e ≡ t → Sound line at (cond t (Negative n e) Bad)
-    by_test true f = found line at (negsuc n) e f h
-    by_test false f = tt
-number_ended line at Bad h = tt
 
 pub number_sound : (line : List ℕ) (at : ℕ) → Sound line at (number_at line at)
 unfolding number_at
@@ -193,17 +189,14 @@ stands_inside line at z e h = let w = within line at (whole_text z) h.rest h.tex
 
 -- ---- exact
 sound_of : (line : List ℕ) (at : ℕ) (z : ℤ) (e : ℕ) → Sound line at (number_of z e) → Standing line at z e
-sound_of line at (pos n) e h = h
-sound_of line at (negsuc n) e h = h
+sound_of line at z e h = h
 
-never_bad : (z : ℤ) (e : ℕ) → number_of z e ≡ Bad → ⊥
-never_bad (pos n) e q = let z : ◌≡◌ {A = ℕ} 0 1 = cc in omega arith
-never_bad (negsuc n) e q = let z : ◌≡◌ {A = ℕ} 0 1 = cc in omega arith
+never_bad : (z : ℤ) (e : ℕ) → number_of z e ≡ None → ⊥
+never_bad z e q = let z : ◌≡◌ {A = ℕ} 0 1 = cc in omega arith
 
-none_bad : (line : List ℕ) (at : ℕ) (x : Number) → Sound line at x → ((z : ℤ) (e : ℕ) → Standing line at z e → ⊥) → x ≡ Bad
-none_bad line at (Natural n e) h f = absurd (f (pos n) e h)
-none_bad line at (Negative n e) h f = absurd (f (negsuc n) e h)
-none_bad line at Bad h f = refl
+none_bad : (line : List ℕ) (at : ℕ) (x : Option Reading) → Sound line at x → ((z : ℤ) (e : ℕ) → Standing line at z e → ⊥) → x ≡ None
+none_bad line at None h f = refl
+none_bad line at (Some r) h f = absurd (f r.number r.end h)
 
 stands_read : (line : List ℕ) (at : ℕ) (z : ℤ) (e : ℕ) → Standing line at z e → number_at line at ≡ number_of z e
 stands_read line at z e h = number_complete line at z h.rest h.text h.small h.parted ∙ ap (number_of z) (sym h.ends)
@@ -215,3 +208,10 @@ number_contract line at =
       reads = λ z e. ((λ q. sound_of line at z e (subst (Sound line at) q (number_sound line at))), stands_read line at z e);
       bad = ((λ q z e h. never_bad z e (sym (stands_read line at z e h) ∙ q)), none_bad line at (number_at line at) (number_sound line at));
     }
+
+pub number_is : (line : List ℕ) (at : ℕ) (r : Option Reading) → r ≡ ended_in line (signed_from at (drop at line)) → NumberContract line at r
+unfolding number_at
+number_is line at r e = subst (NumberContract line at) (sym e) (number_contract line at)
+
+pub reading_inside : (line : List ℕ) (at : ℕ) (r : Reading) → NumberContract line at (Some r) → (at < r.end) × (r.end ≤ length line)
+reading_inside line at r k = stands_inside line at r.number r.end ((k.reads r.number r.end).0 refl)

@@ -1,15 +1,13 @@
 -- What the number reader promises: the number that stands at a place of a line.
-use Rattle.std.specs.Prelude.{◌≡◌, ◌↔◌, List, [], ◌∷◌, ◌++◌, ℕ, suc, ◌+◌, ◌^◌, ◌<◌, ℤ, pos, negsuc, length, drop}
-use Rattle.decimal.specs.declared.number.Number.{Number}
-use Rattle.decimal.specs.declared.number.Number.TheVariants.{Natural, Negative, Bad}
+use Rattle.std.specs.Prelude.{◌≡◌, ◌↔◌, List, [], ◌∷◌, ◌++◌, ℕ, suc, ◌+◌, ◌^◌, ◌<◌, ℤ, pos, negsuc, length, drop, Option, None, Some, option_map}
+use Rattle.decimal.specs.declared.number.Reading.{Reading}
 use Rattle.decimal.specs.declared.reader.NumberReader.{NumberReader}
 use Rattle.decimal.specs.Decimal.{whole_text}
 use Rattle.decimal.specs.Computed.Number.{number_at}
 
 -- The routine's answer for a number and where it ends. It holds 64 bits beside the sign; a field's width is tested later.
-abbrev pub number_of : ℤ → ℕ → Number
-number_of (pos n) end = Natural n end
-number_of (negsuc n) end = Negative n end
+abbrev pub number_of : ℤ → ℕ → Option Reading
+number_of z end = Some (record { number = z; end = end })
 
 abbrev pub Small : ℤ → Type 0
 Small (pos n) = n < 2 ^ 64
@@ -29,20 +27,21 @@ pub record Standing (line : List ℕ) (at : ℕ) (z : ℤ) (end : ℕ) : Type 0 
   pub small : Small z
 
 -- The number there, exactly if one stands there.
-pub record NumberContract (line : List ℕ) (at : ℕ) (r : Number) : Type 0 where
+pub record NumberContract (line : List ℕ) (at : ℕ) (r : Option Reading) : Type 0 where
   pub answer : r ≡ number_at line at
   pub reads : (z : ℤ) (end : ℕ) → (r ≡ number_of z end) ↔ Standing line at z end
-  pub bad : (r ≡ Bad) ↔ ((z : ℤ) (end : ℕ) → Standing line at z end → ⊥)
+  pub bad : (r ≡ None) ↔ ((z : ℤ) (end : ℕ) → Standing line at z end → ⊥)
 
 -- Where a reader has come to with a number: behind the comma that ends it. The line's end counts as one, so that behind the last number it is one beyond
 -- the line, and behind a last comma at the line's end, where no number stands. Without a number the place stays.
-abbrev pub place_behind : ℕ → Number → ℕ
-place_behind at (Natural n end) = suc end
-place_behind at (Negative n end) = suc end
-place_behind at Bad = at
+abbrev pub place_behind : ℕ → Option Reading → ℕ
+place_behind at (Some r) = suc r.end
+place_behind at None = at
 
 -- "The number reader keeps the line it was lent and how far it has come": the number that it has come to, the same line, the place behind.
-pub record NextContract (before after : NumberReader) (r : Number) : Type 0 where
-  pub number : NumberContract before.line.now before.at r
+pub record NextContract (before : NumberReader) (number : Option ℤ) (after : NumberReader) : Type 0 where
+  pub reading : Option Reading
+  pub stands : NumberContract before.line.now before.at reading
+  pub gives : number ≡ option_map (λ r. r.number) reading
   pub keeps : after.line ≡ before.line
-  pub place : after.at ≡ place_behind before.at r
+  pub place : after.at ≡ place_behind before.at reading

@@ -1,133 +1,87 @@
 // One number at a place of a line.
-ghost use Rattle.std.specs.Prelude.{◌≡◌, drop};
-ghost use Rattle.decimal.specs.Computed.Number.{digit_of, digits_from, natural_from, negated, signed_from, is_end, ended_in};
+ghost use Rattle.std.specs.Prelude.{◌≡◌, ◌≤◌, length, drop};
+ghost use Rattle.decimal.specs.Computed.Number.{digit_of, digits_from, natural_from, signed_from, is_end};
 ghost use Rattle.decimal.specs.Number.{NumberContract};
 
-// A number and the place behind it. `Negative` is -1 - `below`, so that there is one zero.
-#[derive(Clone, Copy)]
-pub enum Number {
-    Natural { value: u64, end: usize },
-    Negative { below: u64, end: usize },
-    Bad,
+// A number that was read, of 64 bits beside its sign, and the place behind it.
+#[derive(Clone, Copy, Debug, PartialEq, Eq)]
+pub struct Reading {
+    pub number: i128,
+    pub end: usize,
 }
 
-// A byte's digit; 10 where the byte is no digit.
-fn digit_of(byte: u8) -> u64
+// A byte's digit.
+#[tactic(auto, unfolding(crate::specs::Computed::Number::digit_of))]
+fn digit_of(byte: u8) -> Option<u64>
     ensures { result ≡ digit_of byte }
 {
-    if byte < 48 {
-        return 10;
+    if byte.is_ascii_digit() {
+        Some(u64::from(byte - b'0'))
+    } else {
+        None
     }
-    if 57 < byte {
-        return 10;
-    }
-    (byte - 48) as u64
 }
 
-// The digits at a place, behind a number that was read. What would leave 64 bits is tested before it is made.
-fn digits_from(line: &[u8], at: usize, first: u64) -> Number
+// The digits at a place, behind a number that was read, and their end. What would leave 64 bits is no number.
+#[tactic(auto, using(crate::proofs::NumberTurn::digits_at, crate::proofs::NumberTurn::digits_end))]
+fn digits_from(line: &[u8], at: usize, first: u64) -> Option<(u64, usize)>
+    requires { at ≤ length line.now }
     ensures { result ≡ digits_from first at (drop at line.now) }
 {
     let mut value = first;
-    let mut i = at;
-    while i < line.len() {
-        let digit = digit_of(line[i]);
-        if 9 < digit {
-            return Number::Natural { value, end: i };
-        }
-        if (u64::MAX - digit) / 10 < value {
-            return Number::Bad;
-        }
-        value = value * 10 + digit;
-        i += 1;
+    for i in at..line.len() {
+        let Some(digit) = digit_of(line[i]) else {
+            return Some((value, i));
+        };
+        value = value.checked_mul(10)?.checked_add(digit)?;
     }
-    Number::Natural { value, end: i }
+    Some((value, line.len()))
 }
 
 // A zero by itself, or digits that do not begin with one.
-fn natural_at(line: &[u8], at: usize) -> Number
+#[tactic(auto, using(crate::proofs::NumberTurn::natural_at, crate::proofs::NumberTurn::natural_end))]
+fn natural_at(line: &[u8], at: usize) -> Option<(u64, usize)>
     ensures { result ≡ natural_from at (drop at line.now) }
 {
-    if line.len() <= at {
-        return Number::Bad;
-    }
-    let digit = digit_of(line[at]);
-    if digit == 0 {
-        return Number::Natural {
-            value: 0,
-            end: at + 1,
-        };
-    }
-    if 9 < digit {
-        return Number::Bad;
-    }
-    digits_from(line, at + 1, digit)
-}
-
-// The number behind a minus: no zero.
-fn below_zero(number: Number) -> Number
-    ensures { result ≡ negated number }
-{
-    match number {
-        Number::Natural { value, end } => {
-            if value == 0 {
-                return Number::Bad;
-            }
-            Number::Negative {
-                below: value - 1,
-                end,
-            }
-        }
-        Number::Negative { below: _, end: _ } => Number::Bad,
-        Number::Bad => Number::Bad,
+    match digit_of(*line.get(at)?)? {
+        0 => Some((0, at + 1)),
+        digit => digits_from(line, at + 1, digit),
     }
 }
 
-fn signed_at(line: &[u8], at: usize) -> Number
+// Behind a minus stands no zero, so that there is one zero.
+#[tactic(auto, using(crate::proofs::NumberTurn::signed_at, crate::proofs::NumberTurn::signed_end), unfolding(crate::specs::Computed::Number::negated))]
+fn signed_at(line: &[u8], at: usize) -> Option<Reading>
     ensures { result ≡ signed_from at (drop at line.now) }
 {
-    if line.len() <= at {
-        return Number::Bad;
+    if *line.get(at)? != b'-' {
+        let (size, end) = natural_at(line, at)?;
+        return Some(Reading {
+            number: i128::from(size),
+            end,
+        });
     }
-    if line[at] == b'-' {
-        return below_zero(natural_at(line, at + 1));
+    let (size, end) = natural_at(line, at + 1)?;
+    if size == 0 {
+        return None;
     }
-    natural_at(line, at)
+    Some(Reading {
+        number: -i128::from(size),
+        end,
+    })
 }
 
 // A number ends at the line's end or at a comma.
+#[tactic(auto, unfolding(crate::specs::Computed::Number::is_end))]
 fn is_end(line: &[u8], at: usize) -> bool
     ensures { result ≡ is_end line.now at }
 {
-    if line.len() <= at {
-        return true;
-    }
-    line[at] == b','
-}
-
-fn ended(line: &[u8], number: Number) -> Number
-    ensures { result ≡ ended_in line.now number }
-{
-    match number {
-        Number::Natural { value: _, end } => {
-            if is_end(line, end) {
-                return number;
-            }
-            Number::Bad
-        }
-        Number::Negative { below: _, end } => {
-            if is_end(line, end) {
-                return number;
-            }
-            Number::Bad
-        }
-        Number::Bad => Number::Bad,
-    }
+    line.len() <= at || line[at] == b','
 }
 
 // The number that starts at a place of a line and ends at a comma or at the line's end.
-pub fn number_at(line: &[u8], at: usize) -> Number
+pub fn number_at(line: &[u8], at: usize) -> Option<Reading>
     ensures { NumberContract line.now at result }
 {
-    ended(line, signed_at(line, at))
+    signed_at(line, at).filter(|reading| is_end(line, reading.end))
 }

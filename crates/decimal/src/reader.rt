@@ -1,28 +1,9 @@
-// The number reader: a line and how far it has come, thin over `number_from`.
-ghost use Rattle.std.specs.Prelude.{◌≡◌};
-ghost use Rattle.decimal.specs.Number.{NumberContract, place_behind, NextContract};
+// The number reader: a line and how far it has come, thin over `number_at`.
+ghost use Rattle.std.specs.Prelude.{◌≡◌, suc, ◌-◌, length};
+ghost use Rattle.std.specs.Iterator.{at_most};
+ghost use Rattle.decimal.specs.Number.{NextContract};
 
-use crate::number::{Number, number_at};
-
-// A number, and the place that a reader comes to with it.
-#[derive(Clone, Copy)]
-pub struct Reading {
-    pub number: Number,
-    pub at: usize,
-}
-
-// The number at a place, and the place behind it and the comma, or the line's end, that ends it. Without a number the place stays.
-fn number_from(line: &[u8], at: usize) -> Reading
-    ensures { NumberContract line.now at result.number × (result.at ≡ place_behind at result.number) }
-{
-    let number = number_at(line, at);
-    let behind = match number {
-        Number::Natural { value: _, end } => end + 1,
-        Number::Negative { below: _, end } => end + 1,
-        Number::Bad => at,
-    };
-    Reading { number, at: behind }
-}
+use crate::number::number_at;
 
 // The line that was lent, and how far the reader has come.
 #[derive(Drop)]
@@ -37,21 +18,20 @@ impl<'a> NumberReader<'a> {
     {
         NumberReader { line, at }
     }
-
-    // The number that the reader has come to. With it the reader comes to the place behind; without one it stays.
-    pub fn next(&mut self) -> Number
-        ensures { NextContract self.old self.new result }
-    {
-        let reading = number_from(self.line, self.at);
-        self.at = reading.at;
-        reading.number
-    }
 }
 
-// For a caller that holds no reader: the number at a place.
-pub fn next_number(line: &[u8], at: usize) -> Number
-    ensures { NumberContract line.now at result }
-{
-    let mut reader = NumberReader::new(line, at);
-    reader.next()
+impl<'a> Iterator for NumberReader<'a> {
+    type Item = i128;
+
+    ghost next_gives = { NextContract };
+
+    ghost remaining = { λ reader. at_most (suc (length reader.line.now) - reader.at) };
+
+    // The number that the reader has come to. With it the reader comes to the place behind; without one it stays.
+    #[tactic(auto, using(crate::proofs::SoundLaw::reading_inside))]
+    fn next(&mut self) -> Option<i128> {
+        let reading = number_at(self.line, self.at)?;
+        self.at = reading.end + 1;
+        Some(reading.number)
+    }
 }

@@ -10,12 +10,11 @@ use lib.ListN.{length, get_elem?}
 use Rattle.minuska.specs.Term.{Term, node_count}
 use Rattle.minuska.specs.Rule.{Rule, Table, max_nodes, max_steps, max_actions, ok_table}
 use Rattle.minuska.specs.Rewriting.{RewritesBy}
-use Rattle.minuska.specs.declared.Check.{Check}
+use Rattle.std.specs.Prelude.{Option as StdOption, Result, Ok, Err, IfOk}
 use Rattle.minuska.specs.declared.Refusal.{Refusal}
+use Rattle.minuska.specs.declared.Stepped.{Stepped}
 use Rattle.minuska.specs.declared.Refusal.TheVariants.{BadTable, BadConfiguration}
 use Rattle.minuska.specs.declared.MatchAnswer.{MatchAnswer}
-use Rattle.minuska.specs.declared.ReasonsAnswer.{ReasonsAnswer}
-use Rattle.minuska.specs.declared.StepAnswer.{StepAnswer}
 use Rattle.minuska.specs.declared.RunAnswer.{RunAnswer}
 use Rattle.minuska.specs.declared.ReplayAnswer.{ReplayAnswer}
 use Rattle.minuska.specs.Answer.{number, Row, Outcome, refused, gives, MatchResult, matched, misfit, ReasonsResult, listed, not_stuck, StepResult, stepped, stuck, too_large, Ending, ends_stuck, ends_spent, ends_over, RunResult, ReplayResult, reproduced, exceeded, not_reproduced}
@@ -30,14 +29,19 @@ use Rattle.minuska.proofs.Bridge.PositionLaw.{few_rules}
 use Rattle.minuska.proofs.MisfitLaw.{place_low}
 use Rattle.minuska.proofs.StepLaw.{rule_okay}
 use Rattle.minuska.proofs.RefusalLaw.{NumberWithin, number_within, row_failed, words_read, early_number, size_numbers}
-use Rattle.hethalip.specs.Range.{CheckInRange, MatchInRange, ReasonsInRange, StepInRange, RunInRange, ReplayInRange}
+use Rattle.hethalip.specs.Range.{InRange, CheckInRange, MatchInRange, ReasonsInRange, StepInRange, RunInRange, ReplayInRange}
+
+-- what is asked of an answer that is packed
+pub given_within : {A : Type 0} (Within : A → Type 0) (most : ℕ) (r : Result A Refusal) → InRange Within most r → IfOk r Within
+given_within Within most (Ok x) h = h
+given_within Within most (Err why) h = tt
 
 -- ---- the checks
 checked_in_range : {A : Type 0} (why : Refusal) → number why ≤ 2 → (o : Option A) → CheckInRange (checked why o)
 checked_in_range why n none = n
 checked_in_range why n (some a) = tt
 
-module _ {ws : List ℤ} {r : Check} where
+module _ {ws : List ℤ} {r : Result (Unit {0}) Refusal} where
   pub table_in_range : CheckTableContract ws r → CheckInRange r
   unfolding table_check number
   table_in_range c = subst⁻¹ CheckInRange c.answer (checked_in_range BadTable (lit≤ tt) (read_table ws))
@@ -56,7 +60,7 @@ counts_in_range (gives (misfit k)) e f g = g k refl
 left_few : (t : Table) → T (ok_table t) → (n : ℕ) (r : Rule) → get_elem? t n ≡ some r → node_count r.left ≤ 512
 left_few t x n r e = (good r (rule_okay t x n r e)).left.small
 
-module _ {ws cs : List ℤ} {rule : ℕ} {r : MatchAnswer} where
+module _ {ws cs : List ℤ} {rule : ℕ} {r : Result MatchAnswer Refusal} where
   pub match_in_range : MatchRuleContract ws cs rule r → MatchInRange r
   unfolding number
   match_in_range c =
@@ -94,7 +98,7 @@ listed_in_range (gives (not_stuck n)) e f = f n refl
 abbrev list_rows : List ℤ → ℕ → List Row
 list_rows table list = short_row (ReasonsShort table list) ∷ []
 
-module _ {ws cs list list' : List ℤ} {r : ReasonsAnswer} where
+module _ {ws cs list list' : List ℤ} {r : Result (StdOption ℕ) Refusal} where
   pub reasons_in_range : ReasonsContract ws cs list list' r → ReasonsInRange r
   unfolding number
   reasons_in_range c =
@@ -121,7 +125,7 @@ answer_in_range (gives (stepped n a h)) e f = f n a h refl
 answer_in_range (gives stuck) e f = tt
 answer_in_range (gives too_large) e f = lit≤ tt
 
-module _ {ws cs out out' : List ℤ} {r : StepAnswer} where
+module _ {ws cs out out' : List ℤ} {r : Result (StdOption Stepped) Refusal} where
   pub step_in_range : StepContract ws cs out out' r → StepInRange r
   step_in_range c =
       subst⁻¹ StepInRange c.answer (answer_in_range c.outcome (early_number ws cs [] c.outcome tt c.refuses) steps)
@@ -134,7 +138,7 @@ module _ {ws cs out out' : List ℤ} {r : StepAnswer} where
           let j = out_limit_lem (length out) in
           let k = s.1 in (i.0, i.1, omega arith)
 
-module _ {ws cs : List ℤ} {rule : ℕ} {out out' : List ℤ} {r : StepAnswer} where
+module _ {ws cs : List ℤ} {rule : ℕ} {out out' : List ℤ} {r : Result (StdOption Stepped) Refusal} where
   pub rule_in_range : StepByRuleContract ws cs rule out out' r → StepInRange r
   rule_in_range c =
       subst⁻¹ StepInRange c.answer (answer_in_range c.outcome (early_number ws cs [] c.outcome tt c.refuses) steps)
@@ -149,7 +153,7 @@ module _ {ws cs : List ℤ} {rule : ℕ} {out out' : List ℤ} {r : StepAnswer} 
           let m = s.0 in (omega (arith, i.0), i.1, omega arith)
 
 -- ---- the run
-ended_in_range : (k : ℕ) (x : Ending) → k ≤ max_steps → RunInRange (ended_as x k)
+ended_in_range : (k : ℕ) (x : Ending) → k ≤ max_steps → RunInRange (Ok (ended_as x k))
 ended_in_range k ends_stuck h = h
 ended_in_range k ends_spent h = h
 ended_in_range k ends_over h = h
@@ -159,7 +163,7 @@ unfolding run_answer
 counted_in_range (refused why) e f = e
 counted_in_range (gives x) e f = ended_in_range x.steps x.ending (f x refl)
 
-module _ {ws cs : List ℤ} {budget limit : ℕ} {out spare out' spare' : List ℤ} {r : RunAnswer} where
+module _ {ws cs : List ℤ} {budget limit : ℕ} {out spare out' spare' : List ℤ} {r : Result RunAnswer Refusal} where
   pub run_in_range : RunContract ws cs budget limit out spare out' spare' r → RunInRange r
   run_in_range c =
       subst⁻¹ RunInRange c.answer (counted_in_range c.outcome (size_numbers ws cs limit (max_steps < budget) (RunShort limit (length out) (length spare)) c.outcome c.refuses) steps)
@@ -179,7 +183,7 @@ replayed_in_range (gives (reproduced ns h)) e = tt
 replayed_in_range (gives exceeded) e = lit≤ tt
 replayed_in_range (gives not_reproduced) e = tt
 
-module _ {ws cs : List ℤ} {log : List ℕ} {limit : ℕ} {out : List ℤ} {choices : List ℕ} {work out' : List ℤ} {choices' : List ℕ} {work' : List ℤ} {r : ReplayAnswer} where
+module _ {ws cs : List ℤ} {log : List ℕ} {limit : ℕ} {out : List ℤ} {choices : List ℕ} {work out' : List ℤ} {choices' : List ℕ} {work' : List ℤ} {r : Result ReplayAnswer Refusal} where
   pub replay_in_range : ReplayContract ws cs log limit out choices work out' choices' work' r → ReplayInRange r
   replay_in_range c =
       subst⁻¹ ReplayInRange c.answer

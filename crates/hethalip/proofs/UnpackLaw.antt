@@ -2,22 +2,18 @@
 use mathlib.Core.Path.{◌≡◌, refl, sym, ◌∙◌, ap}
 use Prim.Native.Nat.{ℕ, ◌+◌, ◌*◌, ◌/◌, ◌%◌, ◌^◌, ◌≤◌, ◌<◌}
 use native.Mathlib.Omega.{arith}
+use Rattle.std.specs.Prelude.{Option, Some, None, Result, Ok, Err}
 use Rattle.minuska.specs.declared.Refusal.{Refusal}
+use Rattle.minuska.specs.declared.Stepped.{Stepped}
 use Rattle.minuska.specs.declared.Refusal.TheVariants.{BadTable, BadConfiguration, TooLong, BadLimit, ShortBuffer, OverLimit, Unreadable}
-use Rattle.minuska.specs.declared.Check.{Check}
-use Rattle.minuska.specs.declared.Check.TheVariants as C
 use Rattle.minuska.specs.declared.MatchAnswer.{MatchAnswer}
 use Rattle.minuska.specs.declared.MatchAnswer.TheVariants as M
-use Rattle.minuska.specs.declared.ReasonsAnswer.{ReasonsAnswer}
-use Rattle.minuska.specs.declared.ReasonsAnswer.TheVariants as Q
-use Rattle.minuska.specs.declared.StepAnswer.{StepAnswer}
-use Rattle.minuska.specs.declared.StepAnswer.TheVariants as S
 use Rattle.minuska.specs.declared.RunAnswer.{RunAnswer}
 use Rattle.minuska.specs.declared.RunAnswer.TheVariants as R
 use Rattle.minuska.specs.declared.ReplayAnswer.{ReplayAnswer}
 use Rattle.minuska.specs.declared.ReplayAnswer.TheVariants as P
 use Rattle.minuska.specs.Answer.{number}
-use Rattle.minuska.specs.Slice.{check_says, match_says, reasons_says, step_says, run_says, replay_says}
+use Rattle.minuska.specs.Slice.{run_says}
 use Rattle.hethalip.specs.Pack.{pack_check, pack_match, pack_reasons, pack_step, pack_run, pack_replay}
 use Rattle.hethalip.specs.Range.{CheckInRange, MatchInRange, ReasonsInRange, StepInRange, RunInRange, ReplayInRange}
 use Rattle.hethalip.specs.Unpack.{Lossless, unpack_check, unpack_match, unpack_reasons, unpack_step, unpack_run, unpack_replay}
@@ -43,124 +39,124 @@ low_half : (x above : ℕ) → x < 2 ^ 16 → (x + above * 2 ^ 16) % 2 ^ 16 ≡ 
 low_half x above h = omega arith
 
 -- ---- the checks
-check_fits : (a : Check) → CheckInRange a → pack_check a < 2 ^ 64
-unfolding pack_check check_says
-check_fits C.Good h = omega arith
-check_fits (C.Refused why) h = omega arith
+check_fits : (a : Result (Unit {0}) Refusal) → CheckInRange a → pack_check a < 2 ^ 64
+unfolding number
+check_fits (Ok tt) h = omega arith
+check_fits (Err why) h = omega arith
 
-check_reads : (a : Check) → CheckInRange a → unpack_check (pack_check a) ≡ a
-unfolding pack_check unpack_check check_says number
-check_reads C.Good h = refl
-check_reads (C.Refused why) h = each (λ w. unpack_check (number w) ≡ C.Refused w) refl refl refl refl refl refl refl why
+check_reads : (a : Result (Unit {0}) Refusal) → CheckInRange a → unpack_check (pack_check a) ≡ a
+unfolding unpack_check number
+check_reads (Ok tt) h = refl
+check_reads (Err why) h = each (λ w. unpack_check (number w) ≡ Err w) refl refl refl refl refl refl refl why
 
 pub check_lossless : Lossless pack_check unpack_check CheckInRange
 check_lossless = lossless pack_check unpack_check CheckInRange check_fits check_reads
 
 -- ---- the left of one rule
-match_fits : (a : MatchAnswer) → MatchInRange a → pack_match a < 2 ^ 64
-unfolding pack_match match_says
-match_fits (M.Matches k) h = omega arith
-match_fits (M.Differs k) h = omega arith
-match_fits (M.Refused why) h = omega arith
+match_fits : (a : Result MatchAnswer Refusal) → MatchInRange a → pack_match a < 2 ^ 64
+unfolding number
+match_fits (Ok (M.Matches k)) h = omega arith
+match_fits (Ok (M.Differs k)) h = omega arith
+match_fits (Err why) h = omega arith
 
-match_reads : (a : MatchAnswer) → MatchInRange a → unpack_match (pack_match a) ≡ a
-unfolding pack_match unpack_match match_says number
-match_reads (M.Matches k) h =
-    let e : pack_match (M.Matches k) % 2 ^ 8 ≡ 22 = omega arith in
-    let f : pack_match (M.Matches k) / 2 ^ 8 ≡ k = omega arith in
+match_reads : (a : Result MatchAnswer Refusal) → MatchInRange a → unpack_match (pack_match a) ≡ a
+unfolding unpack_match number
+match_reads (Ok (M.Matches k)) h =
+    let e : pack_match (Ok (M.Matches k)) % 2 ^ 8 ≡ 22 = omega arith in
+    let f : pack_match (Ok (M.Matches k)) / 2 ^ 8 ≡ k = omega arith in
     rw (e, f)
-match_reads (M.Differs k) h =
-    let e : pack_match (M.Differs k) % 2 ^ 8 ≡ 23 = omega arith in
-    let f : pack_match (M.Differs k) / 2 ^ 8 ≡ k = omega arith in
+match_reads (Ok (M.Differs k)) h =
+    let e : pack_match (Ok (M.Differs k)) % 2 ^ 8 ≡ 23 = omega arith in
+    let f : pack_match (Ok (M.Differs k)) / 2 ^ 8 ≡ k = omega arith in
     rw (e, f)
-match_reads (M.Refused why) h = each (λ w. unpack_match (number w) ≡ M.Refused w) refl refl refl refl refl refl refl why
+match_reads (Err why) h = each (λ w. unpack_match (number w) ≡ Err w) refl refl refl refl refl refl refl why
 
 pub match_lossless : Lossless pack_match unpack_match MatchInRange
 match_lossless = lossless pack_match unpack_match MatchInRange match_fits match_reads
 
 -- ---- the reasons
-reasons_fits : (a : ReasonsAnswer) → ReasonsInRange a → pack_reasons a < 2 ^ 64
-unfolding pack_reasons reasons_says
-reasons_fits Q.Listed h = omega arith
-reasons_fits (Q.NotStuck rule) h = omega arith
-reasons_fits (Q.Refused why) h = omega arith
+reasons_fits : (a : Result (Option ℕ) Refusal) → ReasonsInRange a → pack_reasons a < 2 ^ 64
+unfolding number
+reasons_fits (Ok None) h = omega arith
+reasons_fits (Ok (Some rule)) h = omega arith
+reasons_fits (Err why) h = omega arith
 
-reasons_reads : (a : ReasonsAnswer) → ReasonsInRange a → unpack_reasons (pack_reasons a) ≡ a
-unfolding pack_reasons unpack_reasons reasons_says number
-reasons_reads Q.Listed h = refl
-reasons_reads (Q.NotStuck rule) h =
-    let e : pack_reasons (Q.NotStuck rule) % 2 ^ 8 ≡ 25 = omega arith in
-    let f : pack_reasons (Q.NotStuck rule) / 2 ^ 8 ≡ rule = omega arith in
+reasons_reads : (a : Result (Option ℕ) Refusal) → ReasonsInRange a → unpack_reasons (pack_reasons a) ≡ a
+unfolding unpack_reasons number
+reasons_reads (Ok None) h = refl
+reasons_reads (Ok (Some rule)) h =
+    let e : pack_reasons (Ok (Some rule)) % 2 ^ 8 ≡ 25 = omega arith in
+    let f : pack_reasons (Ok (Some rule)) / 2 ^ 8 ≡ rule = omega arith in
     rw (e, f)
-reasons_reads (Q.Refused why) h = each (λ w. unpack_reasons (number w) ≡ Q.Refused w) refl refl refl refl refl refl refl why
+reasons_reads (Err why) h = each (λ w. unpack_reasons (number w) ≡ Err w) refl refl refl refl refl refl refl why
 
 pub reasons_lossless : Lossless pack_reasons unpack_reasons ReasonsInRange
 reasons_lossless = lossless pack_reasons unpack_reasons ReasonsInRange reasons_fits reasons_reads
 
 -- ---- the step, and the step by one given rule
-step_fits : (a : StepAnswer) → StepInRange a → pack_step a < 2 ^ 64
-unfolding pack_step step_says
-step_fits (S.Stepped rule action nodes) h = omega arith
-step_fits S.Stuck h = omega arith
-step_fits (S.Refused why) h = omega arith
+step_fits : (a : Result (Option Stepped) Refusal) → StepInRange a → pack_step a < 2 ^ 64
+unfolding number
+step_fits (Ok (Some s)) h = omega arith
+step_fits (Ok None) h = omega arith
+step_fits (Err why) h = omega arith
 
-step_reads : (a : StepAnswer) → StepInRange a → unpack_step (pack_step a) ≡ a
-unfolding pack_step unpack_step step_says number
-step_reads (S.Stepped rule action nodes) h =
-    let r : ℕ = pack_step (S.Stepped rule action nodes) in
+step_reads : (a : Result (Option Stepped) Refusal) → StepInRange a → unpack_step (pack_step a) ≡ a
+unfolding unpack_step number
+step_reads (Ok (Some s)) h =
+    let r : ℕ = pack_step (Ok (Some s)) in
     let k : r % 2 ^ 8 ≡ 17 = omega arith in
-    let p : r / 2 ^ 8 ≡ rule + (action + nodes * 2 ^ 16) * 2 ^ 8 = omega arith in
-    let n : r / 2 ^ 8 % 2 ^ 8 ≡ rule = ap (λ (x : ℕ). x % 2 ^ 8) p ∙ low rule (action + nodes * 2 ^ 16) h.0 in
-    let q : r / 2 ^ 16 ≡ action + nodes * 2 ^ 16 = omega arith in
-    let a : r / 2 ^ 16 % 2 ^ 16 ≡ action = ap (λ (x : ℕ). x % 2 ^ 16) q ∙ low_half action nodes h.1 in
-    let m : r / 2 ^ 32 ≡ nodes = omega arith in
+    let p : r / 2 ^ 8 ≡ s.rule + (s.action + s.nodes * 2 ^ 16) * 2 ^ 8 = omega arith in
+    let n : r / 2 ^ 8 % 2 ^ 8 ≡ s.rule = ap (λ (x : ℕ). x % 2 ^ 8) p ∙ low s.rule (s.action + s.nodes * 2 ^ 16) h.0 in
+    let q : r / 2 ^ 16 ≡ s.action + s.nodes * 2 ^ 16 = omega arith in
+    let a : r / 2 ^ 16 % 2 ^ 16 ≡ s.action = ap (λ (x : ℕ). x % 2 ^ 16) q ∙ low_half s.action s.nodes h.1 in
+    let m : r / 2 ^ 32 ≡ s.nodes = omega arith in
     rw (k, n, a, m)
-step_reads S.Stuck h = refl
-step_reads (S.Refused why) h = each (λ w. unpack_step (number w) ≡ S.Refused w) refl refl refl refl refl refl refl why
+step_reads (Ok None) h = refl
+step_reads (Err why) h = each (λ w. unpack_step (number w) ≡ Err w) refl refl refl refl refl refl refl why
 
 pub step_lossless : Lossless pack_step unpack_step StepInRange
 step_lossless = lossless pack_step unpack_step StepInRange step_fits step_reads
 
 -- ---- the run
-run_fits : (a : RunAnswer) → RunInRange a → pack_run a < 2 ^ 64
-unfolding pack_run run_says number
-run_fits (R.Stuck k) h = omega arith
-run_fits (R.Spent k) h = omega arith
-run_fits (R.Over k) h = omega arith
-run_fits (R.Refused why) h = omega arith
+run_fits : (a : Result RunAnswer Refusal) → RunInRange a → pack_run a < 2 ^ 64
+unfolding run_says number
+run_fits (Ok (R.Stuck k)) h = omega arith
+run_fits (Ok (R.Spent k)) h = omega arith
+run_fits (Ok (R.Over k)) h = omega arith
+run_fits (Err why) h = omega arith
 
-run_reads : (a : RunAnswer) → RunInRange a → unpack_run (pack_run a) ≡ a
-unfolding pack_run unpack_run run_says number
-run_reads (R.Stuck k) h =
-    let e : pack_run (R.Stuck k) % 2 ^ 8 ≡ 18 = omega arith in
-    let f : pack_run (R.Stuck k) / 2 ^ 8 ≡ k = omega arith in
+run_reads : (a : Result RunAnswer Refusal) → RunInRange a → unpack_run (pack_run a) ≡ a
+unfolding unpack_run run_says number
+run_reads (Ok (R.Stuck k)) h =
+    let e : pack_run (Ok (R.Stuck k)) % 2 ^ 8 ≡ 18 = omega arith in
+    let f : pack_run (Ok (R.Stuck k)) / 2 ^ 8 ≡ k = omega arith in
     rw (e, f)
-run_reads (R.Spent k) h =
-    let e : pack_run (R.Spent k) % 2 ^ 8 ≡ 19 = omega arith in
-    let f : pack_run (R.Spent k) / 2 ^ 8 ≡ k = omega arith in
+run_reads (Ok (R.Spent k)) h =
+    let e : pack_run (Ok (R.Spent k)) % 2 ^ 8 ≡ 19 = omega arith in
+    let f : pack_run (Ok (R.Spent k)) / 2 ^ 8 ≡ k = omega arith in
     rw (e, f)
-run_reads (R.Over k) h =
-    let e : pack_run (R.Over k) % 2 ^ 8 ≡ 6 = omega arith in
-    let f : pack_run (R.Over k) / 2 ^ 8 ≡ k = omega arith in
+run_reads (Ok (R.Over k)) h =
+    let e : pack_run (Ok (R.Over k)) % 2 ^ 8 ≡ 6 = omega arith in
+    let f : pack_run (Ok (R.Over k)) / 2 ^ 8 ≡ k = omega arith in
     rw (e, f)
-run_reads (R.Refused why) h =
-    each (λ w. number w ≤ 5 → unpack_run (number w) ≡ R.Refused w) (λ i. refl) (λ i. refl) (λ i. refl) (λ i. refl) (λ i. refl) (λ i. absurd (let z : ⊥ = omega arith in z)) (λ i. refl) why h
+run_reads (Err why) h =
+    each (λ w. number w ≤ 5 → unpack_run (number w) ≡ Err w) (λ i. refl) (λ i. refl) (λ i. refl) (λ i. refl) (λ i. refl) (λ i. absurd (let z : ⊥ = omega arith in z)) (λ i. refl) why h
 
 pub run_lossless : Lossless pack_run unpack_run RunInRange
 run_lossless = lossless pack_run unpack_run RunInRange run_fits run_reads
 
 -- ---- the replay
-replay_fits : (a : ReplayAnswer) → ReplayInRange a → pack_replay a < 2 ^ 64
-unfolding pack_replay replay_says
-replay_fits P.Reproduced h = omega arith
-replay_fits P.NotReproduced h = omega arith
-replay_fits (P.Refused why) h = omega arith
+replay_fits : (a : Result ReplayAnswer Refusal) → ReplayInRange a → pack_replay a < 2 ^ 64
+unfolding number
+replay_fits (Ok P.Reproduced) h = omega arith
+replay_fits (Ok P.NotReproduced) h = omega arith
+replay_fits (Err why) h = omega arith
 
-replay_reads : (a : ReplayAnswer) → ReplayInRange a → unpack_replay (pack_replay a) ≡ a
-unfolding pack_replay unpack_replay replay_says number
-replay_reads P.Reproduced h = refl
-replay_reads P.NotReproduced h = refl
-replay_reads (P.Refused why) h = each (λ w. unpack_replay (number w) ≡ P.Refused w) refl refl refl refl refl refl refl why
+replay_reads : (a : Result ReplayAnswer Refusal) → ReplayInRange a → unpack_replay (pack_replay a) ≡ a
+unfolding unpack_replay number
+replay_reads (Ok P.Reproduced) h = refl
+replay_reads (Ok P.NotReproduced) h = refl
+replay_reads (Err why) h = each (λ w. unpack_replay (number w) ≡ Err w) refl refl refl refl refl refl refl why
 
 pub replay_lossless : Lossless pack_replay unpack_replay ReplayInRange
 replay_lossless = lossless pack_replay unpack_replay ReplayInRange replay_fits replay_reads

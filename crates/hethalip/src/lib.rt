@@ -6,13 +6,14 @@ mod pack;
 ghost use Rattle.minuska.specs.Contract.{CheckTableContract, CheckConfigurationContract, MatchRuleContract, ReasonsContract, StepContract, StepByRuleContract, RunContract, ReplayContract};
 ghost use Rattle.hethalip.specs.Pack.{pack_check, pack_match, pack_reasons, pack_step, pack_run, pack_replay, Packs};
 
+use crate::pack::packed;
+
 // The check of a table.
 #[unsafe(no_mangle)]
 pub extern "C" fn hethalip_check_table(table: &[i64]) -> u64
     ensures { Packs pack_check (CheckTableContract table.now) result }
 {
-    let answer = table::check_table(table);
-    pack::check(answer)
+    packed(table::check_table(table))
 }
 
 // The check of a configuration.
@@ -20,8 +21,7 @@ pub extern "C" fn hethalip_check_table(table: &[i64]) -> u64
 pub extern "C" fn hethalip_check_configuration(configuration: &[i64]) -> u64
     ensures { Packs pack_check (CheckConfigurationContract configuration.now) result }
 {
-    let answer = term::check_configuration(configuration);
-    pack::check(answer)
+    packed(term::check_configuration(configuration))
 }
 
 // A rule's left matched against the configuration.
@@ -29,8 +29,7 @@ pub extern "C" fn hethalip_check_configuration(configuration: &[i64]) -> u64
 pub extern "C" fn hethalip_match<'a>(table: &'a [i64], configuration: &'a [i64], rule: usize) -> u64
     ensures { Packs pack_match (MatchRuleContract table.now configuration.now rule) result }
 {
-    let answer = step::match_rule(table, configuration, rule);
-    pack::matched(answer)
+    packed(step::match_rule(table, configuration, rule))
 }
 
 // Why each rule does not apply to a stuck configuration: two words for each in the list.
@@ -42,8 +41,7 @@ pub extern "C" fn hethalip_reasons<'a>(
 ) -> u64
     ensures { Packs pack_reasons (ReasonsContract table.now configuration.now list.old list.new) result }
 {
-    let answer = step::reasons(table, configuration, list);
-    pack::reasons(answer)
+    packed(step::reasons(table, configuration, list))
 }
 
 // The step.
@@ -55,8 +53,7 @@ pub extern "C" fn hethalip_step<'a>(
 ) -> u64
     ensures { Packs pack_step (StepContract table.now configuration.now out.old out.new) result }
 {
-    let answer = step::step(table, configuration, out);
-    pack::step(answer)
+    packed(step::step(table, configuration, out))
 }
 
 // The step by one given rule.
@@ -69,8 +66,7 @@ pub extern "C" fn hethalip_step_by_rule<'a>(
 ) -> u64
     ensures { Packs pack_step (StepByRuleContract table.now configuration.now rule out.old out.new) result }
 {
-    let answer = step::step_by_rule(table, configuration, rule, out);
-    pack::step(answer)
+    packed(step::step_by_rule(table, configuration, rule, out))
 }
 
 // The run: the limit is in nodes.
@@ -85,10 +81,8 @@ pub extern "C" fn hethalip_run<'a>(
 ) -> u64
     ensures { Packs pack_run (RunContract table.now configuration.now budget limit out.old spare.old out.new spare.new) result }
 {
-    let steps = budget as usize;
-    let nodes = limit as usize;
-    let answer = run::run(table, configuration, steps, nodes, out, spare);
-    pack::run(answer)
+    let (steps, nodes) = (budget as usize, limit as usize);
+    packed(run::run(table, configuration, steps, nodes, out, spare))
 }
 
 // The replay: the limit is in nodes.
@@ -105,6 +99,5 @@ pub extern "C" fn hethalip_replay<'a>(
     ensures { Packs pack_replay (ReplayContract table.now configuration.now log.now limit out.old choices.old work.old out.new choices.new work.new) result }
 {
     let nodes = limit as usize;
-    let answer = replay::replay(table, configuration, log, nodes, out, choices, work);
-    pack::replay(answer)
+    packed(replay::replay(table, configuration, log, nodes, out, choices, work))
 }

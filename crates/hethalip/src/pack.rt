@@ -1,18 +1,58 @@
 // An answer as one number: its kind in the low byte, its values above.
-ghost use Rattle.std.specs.Prelude.{◌≡◌, ◌+◌, ◌*◌, ◌≤◌, ◌<◌, ◌^◌};
+ghost use Rattle.std.specs.Prelude.{◌≡◌, ℕ, ◌+◌, ◌*◌, ◌≤◌, ◌<◌, ◌^◌, IfOk};
 ghost use Rattle.minuska.specs.Rule.{max_nodes, max_steps};
-ghost use Rattle.hethalip.specs.Pack.{pack_check, pack_match, pack_reasons, pack_step, pack_run, pack_replay};
-ghost use Rattle.hethalip.specs.Range.{MatchInRange, ReasonsInRange, StepInRange, RunInRange};
+ghost use Rattle.hethalip.specs.Pack.{pack, good_number, match_number, reasons_number, step_number, run_number, replay_number};
+ghost use Rattle.hethalip.specs.Range.{AnyGood, CountWithin, RuleWithin, StepWithin, StepsWithin, AnyReplay};
 
-use minuska::{Check, MatchAnswer, ReasonsAnswer, ReplayAnswer, RunAnswer, StepAnswer};
+use minuska::{MatchAnswer, Refusal, ReplayAnswer, RunAnswer, Stepped};
 
-// A check.
-pub fn check(answer: Check) -> u64
-    ensures { result ≡ pack_check answer }
+// The low byte of an answer that is no refusal: what it is.
+#[derive(Clone, Copy, Debug, PartialEq, Eq)]
+enum Kind {
+    Good = 0,
+    Over = 6,
+    Stuck = 16,
+    Stepped = 17,
+    RanStuck = 18,
+    RanSpent = 19,
+    Reproduced = 20,
+    NotReproduced = 21,
+    Matches = 22,
+    Differs = 23,
+    Listed = 24,
+    NotStuck = 25,
+}
+
+// What a routine answers where it does not refuse.
+pub trait Answer {
+    ghost within: { Self → Type 0 };
+
+    ghost number_of: { Self → ℕ };
+
+    fn number(self) -> u64
+        requires { within self }
+        ensures { result ≡ number_of self };
+}
+
+// An answer, or the refusal's own number.
+pub fn packed<T: Answer>(answer: Result<T, Refusal>) -> u64
+    requires { IfOk answer T.within }
+    ensures { result ≡ pack T.number_of answer }
 {
     match answer {
-        Check::Good => 0,
-        Check::Refused(why) => minuska::number(why),
+        Ok(given) => given.number(),
+        Err(why) => u64::from(why),
+    }
+}
+
+// A check.
+impl Answer for () {
+    ghost within = { AnyGood };
+
+    ghost number_of = { good_number };
+
+    fn number(self) -> u64 {
+        Kind::Good as u64
     }
 }
 
@@ -24,27 +64,30 @@ fn counted(kind: u64, k: usize) -> u64
     kind + k as u64 * 256
 }
 
-// A match.
-pub fn matched(answer: MatchAnswer) -> u64
-    requires { MatchInRange answer }
-    ensures { result ≡ pack_match answer }
-{
-    match answer {
-        MatchAnswer::Matches(count) => counted(22, count),
-        MatchAnswer::Differs(count) => counted(23, count),
-        MatchAnswer::Refused(why) => minuska::number(why),
+impl Answer for MatchAnswer {
+    ghost within = { CountWithin };
+
+    ghost number_of = { match_number };
+
+    fn number(self) -> u64 {
+        match self {
+            MatchAnswer::Matches(count) => counted(Kind::Matches as u64, count),
+            MatchAnswer::Differs(count) => counted(Kind::Differs as u64, count),
+        }
     }
 }
 
 // Reasons.
-pub fn reasons(answer: ReasonsAnswer) -> u64
-    requires { ReasonsInRange answer }
-    ensures { result ≡ pack_reasons answer }
-{
-    match answer {
-        ReasonsAnswer::Listed => 24,
-        ReasonsAnswer::NotStuck(rule) => counted(25, rule),
-        ReasonsAnswer::Refused(why) => minuska::number(why),
+impl Answer for Option<usize> {
+    ghost within = { RuleWithin };
+
+    ghost number_of = { reasons_number };
+
+    fn number(self) -> u64 {
+        match self {
+            None => Kind::Listed as u64,
+            Some(rule) => counted(Kind::NotStuck as u64, rule),
+        }
     }
 }
 
@@ -53,45 +96,46 @@ fn stepped(rule: usize, action: u16, nodes: usize) -> u64
     requires { (rule < 256) × (nodes ≤ max_nodes) }
     ensures { result ≡ 17 + rule * 2 ^ 8 + action * 2 ^ 16 + nodes * 2 ^ 32 }
 {
-    17 + rule as u64 * 256 + action as u64 * 65536 + nodes as u64 * 4294967296
+    Kind::Stepped as u64 + rule as u64 * 256 + action as u64 * 65536 + nodes as u64 * 4294967296
 }
 
-// A step.
-pub fn step(answer: StepAnswer) -> u64
-    requires { StepInRange answer }
-    ensures { result ≡ pack_step answer }
-{
-    match answer {
-        StepAnswer::Stepped {
-            rule,
-            action,
-            nodes,
-        } => stepped(rule, action, nodes),
-        StepAnswer::Stuck => 16,
-        StepAnswer::Refused(why) => minuska::number(why),
+impl Answer for Option<Stepped> {
+    ghost within = { StepWithin };
+
+    ghost number_of = { step_number };
+
+    fn number(self) -> u64 {
+        match self {
+            None => Kind::Stuck as u64,
+            Some(made) => stepped(made.rule, made.action, made.nodes),
+        }
     }
 }
 
-// A run.
-pub fn run(answer: RunAnswer) -> u64
-    requires { RunInRange answer }
-    ensures { result ≡ pack_run answer }
-{
-    match answer {
-        RunAnswer::Stuck(k) => counted(18, k),
-        RunAnswer::Spent(k) => counted(19, k),
-        RunAnswer::Over(k) => counted(6, k),
-        RunAnswer::Refused(why) => minuska::number(why),
+impl Answer for RunAnswer {
+    ghost within = { StepsWithin };
+
+    ghost number_of = { run_number };
+
+    #[tactic(auto, unfolding(minuska::specs::Slice::run_says, minuska::specs::Answer::number))]
+    fn number(self) -> u64 {
+        match self {
+            RunAnswer::Stuck(k) => counted(Kind::RanStuck as u64, k),
+            RunAnswer::Spent(k) => counted(Kind::RanSpent as u64, k),
+            RunAnswer::Over(k) => counted(Kind::Over as u64, k),
+        }
     }
 }
 
-// A replay.
-pub fn replay(answer: ReplayAnswer) -> u64
-    ensures { result ≡ pack_replay answer }
-{
-    match answer {
-        ReplayAnswer::Reproduced => 20,
-        ReplayAnswer::NotReproduced => 21,
-        ReplayAnswer::Refused(why) => minuska::number(why),
+impl Answer for ReplayAnswer {
+    ghost within = { AnyReplay };
+
+    ghost number_of = { replay_number };
+
+    fn number(self) -> u64 {
+        match self {
+            ReplayAnswer::Reproduced => Kind::Reproduced as u64,
+            ReplayAnswer::NotReproduced => Kind::NotReproduced as u64,
+        }
     }
 }

@@ -1,97 +1,100 @@
 -- A FRAME'S TABLE: configurations that were searched before, in the words of the frame that its own configuration leaves free.
--- The frame is cut into parts of one width: the first is the own configuration's, the next are slots, and the last two words of the `room` hold the width and the
--- number of slots. A slot is a length, 0 where it is empty, and so many words. Which slot a configuration may stand in goes by its words; nothing here depends on it.
+-- The words before a frame's last two are cut into parts of one width: the first is the own configuration's, the next are slots, and the last two words hold the number of
+-- slots and the width. A slot is a length, 0 where it is empty, and so many words. Which slot a configuration may stand in goes by its words; nothing here depends on it.
 use Rattle.std.specs.Prelude.{◌≡◌, ◌⊎◌, List, ℕ, ◌+◌, ◌-◌, ◌*◌, ◌≤◌, ◌<◌, ℤ, pos, length, get_or, take, drop}
 use Rattle.words.specs.Number.{nat_of}
 use Rattle.memory.specs.Layout.{length_of, words_of}
 
-unfoldable pub width_of : ℕ → List ℤ → ℕ → ℕ
-width_of room work at = nat_of (get_or work (at + room - 1) (pos 0))
+-- the least frame that has a table at all, with 16 words for a configuration
+abbrev pub least : ℕ
+least = 18
 
-unfoldable pub slots_of : ℕ → List ℤ → ℕ → ℕ
-slots_of room work at = nat_of (get_or work (at + room - 2) (pos 0))
+unfoldable pub width_of : List ℤ → ℕ
+width_of frame = nat_of (get_or frame (length frame - 3) (pos 0))
+
+unfoldable pub slots_of : List ℤ → ℕ
+slots_of frame = nat_of (get_or frame (length frame - 4) (pos 0))
 
 unfoldable pub head_of : List ℤ → ℕ → ℕ
-head_of work at = nat_of (get_or work at (pos 0))
+head_of frame at = nat_of (get_or frame at (pos 0))
 
 -- where slot s begins, behind the frame's own place
-abbrev pub slot_at : ℕ → List ℤ → ℕ → ℕ → ℕ
-slot_at room work at s = at + s * width_of room work at
+abbrev pub slot_at : List ℤ → ℕ → ℕ
+slot_at frame s = s * width_of frame
 
 -- a configuration's words stand in a slot
-pub record Filed (room : ℕ) (work : List ℤ) (at : ℕ) (c : List ℤ) : Type 0 where
-  pub wide : 16 ≤ room
-  pub fits : (slots_of room work at + 1) * width_of room work at + 2 ≤ room
+pub record Filed (frame : List ℤ) (c : List ℤ) : Type 0 where
+  pub wide : least ≤ length frame
+  pub fits : (slots_of frame + 1) * width_of frame + 4 ≤ length frame
   pub slot : ℕ
   pub first : 0 < slot
-  pub last : slot ≤ slots_of room work at
-  pub some : 0 < head_of work (slot_at room work at slot)
-  pub short : head_of work (slot_at room work at slot) < width_of room work at
-  pub is : take (head_of work (slot_at room work at slot)) (drop (slot_at room work at slot + 1) work) ≡ c
+  pub last : slot ≤ slots_of frame
+  pub some : 0 < head_of frame (slot_at frame slot)
+  pub short : head_of frame (slot_at frame slot) < width_of frame
+  pub is : take (head_of frame (slot_at frame slot)) (drop (slot_at frame slot + 1) frame) ≡ c
 
 -- and the table is there: the frame's own configuration, which is some, leaves it whole
-pub record Entry (room : ℕ) (work : List ℤ) (at : ℕ) (c : List ℤ) : Type 0 where
-  pub some : 0 < length_of room work at
-  pub own : length_of room work at < width_of room work at
-  pub filed : Filed room work at c
+pub record Entry (frame : List ℤ) (c : List ℤ) : Type 0 where
+  pub some : 0 < length_of frame
+  pub own : length_of frame < width_of frame
+  pub filed : Filed frame c
 
 -- WHAT A FRAME REMEMBERS: a configuration's words stand in its table, or are its own
-abbrev pub Known : ℕ → List ℤ → ℕ → List ℤ → Type 0
-Known room work at c = Entry room work at c ⊎ ((0 < length_of room work at) × (c ≡ words_of room work at))
+abbrev pub Known : List ℤ → List ℤ → Type 0
+Known frame c = Entry frame c ⊎ ((0 < length_of frame) × (c ≡ words_of frame))
 
 -- no other is in the table of a frame that is entered anew
-abbrev pub Keeps : ℕ → List ℤ → List ℤ → ℕ → Type 0
-Keeps room work work' at = (c : List ℤ) → Entry room work' at c → Known room work at c
+abbrev pub Keeps : List ℤ → List ℤ → Type 0
+Keeps frame frame' = (c : List ℤ) → Entry frame' c → Known frame c
 
 -- ---- what the routines promise
--- nothing outside a frame has changed
-pub record Inside (room : ℕ) (work work' : List ℤ) (at : ℕ) : Type 0 where
-  pub wide : length work' ≡ length work
-  pub below : take at work' ≡ take at work
-  pub behind : drop (at + room) work' ≡ drop (at + room) work
+-- the frame's last two words have not changed
+pub record Inside (frame frame' : List ℤ) : Type 0 where
+  pub wide : length frame' ≡ length frame
+  pub behind : drop (length frame - 2) frame' ≡ drop (length frame - 2) frame
 
 -- a slot at place p of the frame, where the table takes the frame's own configuration and one of `words` words
-pub record Slot (room : ℕ) (work : List ℤ) (at words p : ℕ) : Type 0 where
-  pub wide : 16 ≤ room
-  pub fits : (slots_of room work at + 1) * width_of room work at + 2 ≤ room
+pub record Slot (frame : List ℤ) (words p : ℕ) : Type 0 where
+  pub wide : least ≤ length frame
+  pub fits : (slots_of frame + 1) * width_of frame + 4 ≤ length frame
   pub slot : ℕ
   pub first : 0 < slot
-  pub last : slot ≤ slots_of room work at
-  pub place : p ≡ slot * width_of room work at
-  pub some : 0 < length_of room work at
-  pub own : length_of room work at < width_of room work at
-  pub narrow : words < width_of room work at
+  pub last : slot ≤ slots_of frame
+  pub place : p ≡ slot * width_of frame
+  pub some : 0 < length_of frame
+  pub own : length_of frame < width_of frame
+  pub narrow : words < width_of frame
 
 -- a configuration stands in the slot at a place
 abbrev pub InSlot : List ℤ → ℕ → List ℤ → Type 0
-InSlot work from c = (head_of work from ≡ length c) × (take (length c) (drop (from + 1) work) ≡ c)
+InSlot frame from c = (head_of frame from ≡ length c) × (take (length c) (drop (from + 1) frame) ≡ c)
 
 -- the heads of `count` slots of a width are 0
-pub record Heads (work work' : List ℤ) (at width count : ℕ) : Type 0 where
-  pub wide : length work' ≡ length work
-  pub below : take (at + width) work' ≡ take (at + width) work
-  pub behind : drop (at + (count + 1) * width) work' ≡ drop (at + (count + 1) * width) work
-  pub empty : (s : ℕ) → 0 < s → s ≤ count → get_or work' (at + s * width) (pos 0) ≡ pos 0
+pub record Heads (frame frame' : List ℤ) (width count : ℕ) : Type 0 where
+  pub wide : length frame' ≡ length frame
+  pub below : take width frame' ≡ take width frame
+  pub behind : drop ((count + 1) * width) frame' ≡ drop ((count + 1) * width) frame
+  pub empty : (s : ℕ) → 0 < s → s ≤ count → get_or frame' (s * width) (pos 0) ≡ pos 0
 
 -- a table anew, or none: nothing is in it; where there is one the frame's own configuration stands
-pub record Opens (room : ℕ) (work work' : List ℤ) (at : ℕ) : Type 0 where
-  pub inside : Inside room work work' at
-  pub none_filed : (c : List ℤ) → Filed room work' at c → ⊥
-  pub stands : 0 < width_of room work' at → words_of room work' at ≡ words_of room work at
+pub record Opens (frame frame' : List ℤ) : Type 0 where
+  pub inside : Inside frame frame'
+  pub none_filed : (c : List ℤ) → Filed frame' c → ⊥
+  pub stands : 0 < width_of frame' → words_of frame' ≡ words_of frame
 
 -- a table that takes a configuration of `words` words has nothing that it did not have
-pub record Readies (room : ℕ) (work work' : List ℤ) (at words : ℕ) : Type 0 where
-  pub inside : Inside room work work' at
-  pub files : (c : List ℤ) → words < width_of room work' at → Filed room work' at c → Entry room work at c
-  pub stands : 0 < width_of room work' at → words_of room work' at ≡ words_of room work at
+pub record Readies (frame frame' : List ℤ) (words : ℕ) : Type 0 where
+  pub inside : Inside frame frame'
+  pub files : (c : List ℤ) → words < width_of frame' → Filed frame' c → Entry frame c
+  pub stands : 0 < width_of frame' → words_of frame' ≡ words_of frame
 
 -- but the frame's own configuration, where there is one
-pub record Puts (room : ℕ) (work work' : List ℤ) (at : ℕ) : Type 0 where
-  pub inside : Inside room work work' at
-  pub width : width_of room work' at ≡ width_of room work at
-  pub files : (c : List ℤ) → Filed room work' at c → Filed room work at c ⊎ ((0 < length_of room work at) × (c ≡ words_of room work at))
+pub record Puts (frame frame' : List ℤ) : Type 0 where
+  pub inside : Inside frame frame'
+  pub width : width_of frame' ≡ width_of frame
+  pub files : (c : List ℤ) → Filed frame' c → Filed frame c ⊎ ((0 < length_of frame) × (c ≡ words_of frame))
 
 -- both
-pub record Keeping (room : ℕ) (work work' : List ℤ) (at words : ℕ) : Type 0 where
-  pub inside : Inside room work work' at
-  pub files : (c : List ℤ) → words < width_of room work' at → Filed room work' at c → Known room work at c
+pub record Keeping (frame frame' : List ℤ) (words : ℕ) : Type 0 where
+  pub inside : Inside frame frame'
+  pub files : (c : List ℤ) → words < width_of frame' → Filed frame' c → Known frame c

@@ -1,178 +1,151 @@
 // A frame's table of configurations that were searched before, in the words that its own configuration leaves free (specs/Memory). One slot is looked at for a
 // configuration, whatever the table holds; an entry that falls into a slot replaces what stood there.
-ghost use Rattle.std.specs.Prelude.{◌≡◌, true, ◌⊎◌, ◌+◌, ◌*◌, ◌^◌, ◌≤◌, ◌<◌, length};
-ghost use Rattle.memory.specs.Layout.{max_room, length_of, OwnFits};
-ghost use Rattle.memory.specs.Memory.{Entry, Slot, InSlot, Heads, Opens, Readies, Puts, Keeping};
+ghost use Rattle.std.specs.Prelude.{◌≡◌, true, ◌⊎◌, ◌+◌, ◌*◌, ◌^◌, ◌≤◌, ◌<◌, length, IfSome};
+ghost use Rattle.memory.specs.Layout.{length_of, OwnFits};
+ghost use Rattle.memory.specs.Memory.{least, Entry, Slot, InSlot, Heads, Opens, Readies, Puts, Keeping};
 
 use crate::frame;
 
+// The least frame that has a table at all.
+const LEAST: usize = 18;
+
+const MOST_SLOTS: usize = 256;
+
 // A number by some of the words, at most 32: every word of a short configuration. The step is odd, so that labels and data are met.
-fn mixed(words: &[i64]) -> usize
-    ensures { result < 2 ^ 32 }
-{
+fn mixed(words: &[i64]) -> u32 {
     let step = words.len() / 32 * 2 + 1;
-    let mut mix = words.len() % 4294967296;
-    let mut i = 0;
-    while i < words.len() {
-        mix = (mix + words::number_at(words, i) % 4294967296) % 4294967296 * 668265263 % 4294967296;
-        i += step;
-    }
-    mix
+    let start = (words.len() % 4294967296) as u32;
+    words.iter().step_by(step).fold(start, |mix, word| {
+        let low = usize::try_from(*word).unwrap_or(0) % 4294967296;
+        mix.wrapping_add(low as u32).wrapping_mul(668265263)
+    })
 }
 
-// The place of the slot for a mix, where the table takes the frame's own configuration and one of `words` words; 0 where there is no such table.
-fn slot_at(work: &[i64], at: usize, room: usize, mix: usize, words: usize) -> usize
-    requires { (at + (room + 2) ≤ length work.now) × (room ≤ max_room) × (mix < 2 ^ 32) }
-    ensures { (result ≡ 0) ⊎ Slot room work.now at words result }
+// The place of the slot for a mix, where the table takes the frame's own configuration and one of `words` words.
+#[tactic(auto, using(crate::proofs::MemoryLaw::slot_number), unfolding(crate::specs::Memory::width_of, crate::specs::Memory::slots_of))]
+fn slot_at(frame: &[i64], mix: u32, words: usize) -> Option<usize>
+    requires { 2 ≤ length frame.now }
+    ensures { IfSome result (Slot frame.now words) }
 {
-    if room < 16 {
-        return 0;
+    if frame.len() < LEAST {
+        return None;
     }
-    let width = words::number_at(work, at + room - 1);
-    let slots = words::number_at(work, at + room - 2);
-    let own = words::number_at(work, at + room);
-    if own == 0 {
-        return 0;
+    let own = frame::words_in(frame);
+    let width = words::number_at(frame, frame.len() - 3);
+    let slots = words::number_at(frame, frame.len() - 4);
+    if own == 0
+        || own >= width
+        || words >= width
+        || slots == 0
+        || slots > MOST_SLOTS
+        || (slots + 1).saturating_mul(width) > frame.len() - 4
+    {
+        return None;
     }
-    if own >= width {
-        return 0;
-    }
-    if words >= width {
-        return 0;
-    }
-    if slots == 0 {
-        return 0;
-    }
-    if slots > 256 {
-        return 0;
-    }
-    if width > room {
-        return 0;
-    }
-    if (slots + 1) * width + 2 > room {
-        return 0;
-    }
-    (1 + mix * slots / 4294967296) * width
+    Some((1 + mix as usize * slots / 4294967296) * width)
 }
 
 // Whether a configuration stands in the slot at `from`: lengths first.
-fn stands(work: &[i64], from: usize, configuration: &[i64]) -> bool
-    requires { from + 1 + length configuration.now ≤ length work.now }
-    ensures { result ≡ true → InSlot work.now from configuration.now }
+#[tactic(auto, unfolding(crate::specs::Memory::head_of))]
+fn stands(frame: &[i64], from: usize, configuration: &[i64]) -> bool
+    requires { from + 1 + length configuration.now ≤ length frame.now }
+    ensures { result ≡ true → InSlot frame.now from configuration.now }
 {
-    let count = words::number_at(work, from);
-    if count != configuration.len() {
-        return false;
-    }
     let start = from + 1;
-    let end = start + count;
-    words::same_by_ends(&work[start..end], configuration)
+    words::number_at(frame, from) == configuration.len()
+        && words::same_by_ends(&frame[start..start + configuration.len()], configuration)
 }
 
 // Whether the table has a configuration.
-pub fn has(work: &[i64], at: usize, room: usize, configuration: &[i64]) -> bool
-    requires { (at + (room + 2) ≤ length work.now) × (room ≤ max_room) × (0 < length configuration.now) }
-    ensures { result ≡ true → Entry room work.now at configuration.now }
+#[tactic(auto, using(crate::proofs::MemoryLaw::found_entry))]
+pub fn has(frame: &[i64], configuration: &[i64]) -> bool
+    requires { (2 ≤ length frame.now) × (0 < length configuration.now) }
+    ensures { result ≡ true → Entry frame.now configuration.now }
 {
-    let mix = mixed(configuration);
-    let place = slot_at(work, at, room, mix, configuration.len());
-    if place == 0 {
-        return false;
+    match slot_at(frame, mixed(configuration), configuration.len()) {
+        Some(place) => stands(frame, place, configuration),
+        None => false,
     }
-    stands(work, at + place, configuration)
 }
 
 // The heads of `count` slots become 0.
-fn empty(work: &mut [i64], at: usize, width: usize, count: usize)
-    requires { (at + (count + 1) * width ≤ length work.old) × (0 < width) × (count ≤ 256) }
-    ensures { Heads work.old work.new at width count }
+#[tactic(auto, using(crate::proofs::MemoryLaw::heads_none, crate::proofs::MemoryLaw::heads_more))]
+fn empty(frame: &mut [i64], width: usize, count: usize)
+    requires { ((count + 1) * width ≤ length frame.old) × (0 < width) }
+    ensures { Heads frame.old frame.new width count }
 {
-    let mut slot = 1;
-    while slot <= count {
-        words::put(work, at + slot * width, 0);
-        slot += 1;
+    for slot in 0..count {
+        words::put(frame, (slot + 1) * width, 0);
     }
 }
 
-fn smaller(a: usize, b: usize) -> usize
-    ensures { (result ≤ a) × (result ≤ b) }
+// No table.
+#[tactic(auto, using(crate::proofs::PutLaw::shut_opens))]
+fn shut(frame: &mut [i64])
+    requires { (least ≤ length frame.old) × OwnFits frame.old }
+    ensures { Opens frame.old frame.new }
 {
-    if a < b {
-        return a;
-    }
-    b
-}
-
-fn larger(a: usize, b: usize) -> usize
-    ensures { (a ≤ result) × (b ≤ result) × ((result ≡ a) ⊎ (result ≡ b)) }
-{
-    if a < b {
-        return b;
-    }
-    a
+    let at = frame.len() - 3;
+    words::put(frame, at, 0);
 }
 
 // The table set up, for configurations of up to `most` words and somewhat more. No table where there is no room for a slot.
-fn lay_out(work: &mut [i64], at: usize, room: usize, most: usize)
-    requires { (at + (room + 2) ≤ length work.old) × (room ≤ max_room) × (16 ≤ room) × (most ≤ room) × (length_of room work.old at ≤ most) }
-    ensures { Opens room work.old work.new at }
+fn lay_out(frame: &mut [i64], most: usize)
+    requires { (least ≤ length frame.old) × (most ≤ length frame.old) × (length_of frame.old ≤ most) × OwnFits frame.old }
+    ensures { Opens frame.old frame.new }
 {
+    let room = frame.len() - 4;
     let width = most + most / 4 + 2;
-    let parts = (room - 2) / width;
+    let parts = room / width;
     if parts < 2 {
-        words::put(work, at + room - 1, 0);
+        shut(frame);
         return;
     }
-    let count = smaller(parts - 1, 256);
-    empty(work, at, width, count);
-    words::put(work, at + room - 1, width);
-    words::put(work, at + room - 2, count);
+    let count = (parts - 1).min(MOST_SLOTS);
+    empty(frame, width, count);
+    words::put(frame, room + 1, width);
+    words::put(frame, room, count);
 }
 
 // A table that takes the frame's own configuration and one of `words` words, where there is room for one; what it had stays or goes whole.
-fn ready(work: &mut [i64], at: usize, room: usize, words: usize)
-    requires { (at + (room + 2) ≤ length work.old) × (room ≤ max_room) × (16 ≤ room) × (words ≤ room) × OwnFits room work.old at }
-    ensures { Readies room work.old work.new at words }
+fn ready(frame: &mut [i64], words: usize)
+    requires { (least ≤ length frame.old) × (words ≤ length frame.old) × OwnFits frame.old }
+    ensures { Readies frame.old frame.new words }
 {
-    let own = words::number_at(work, at + room);
+    let own = frame::words_in(frame);
     if own == 0 {
-        words::put(work, at + room - 1, 0);
-        return;
+        shut(frame);
+    } else if slot_at(frame, 0, words).is_none() {
+        lay_out(frame, own.max(words));
     }
-    let place = slot_at(work, at, room, 0, words);
-    if place != 0 {
-        return;
-    }
-    lay_out(work, at, room, larger(own, words));
 }
 
 // The frame's own configuration is put into its slot.
-fn put_own(work: &mut [i64], at: usize, room: usize, words: usize)
-    requires { (at + (room + 2) ≤ length work.old) × (room ≤ max_room) × OwnFits room work.old at }
-    ensures { Puts room work.old work.new at }
+#[tactic(auto, using(crate::proofs::PutLaw::own_puts, crate::proofs::PutLaw::none_put))]
+fn put_own(frame: &mut [i64], words: usize)
+    requires { OwnFits frame.old }
+    ensures { Puts frame.old frame.new }
 {
-    let mix = mixed(frame::configuration(work, at, room));
-    let place = slot_at(work, at, room, mix, words);
-    if place == 0 {
-        return;
+    let mix = mixed(frame::configuration(frame));
+    if let Some(place) = slot_at(frame, mix, words) {
+        let own = frame::words_in(frame);
+        words::put(frame, place, own);
+        words::copy_up(frame, 0, place + 1, own);
     }
-    let own = words::number_at(work, at + room);
-    words::put(work, at + place, own);
-    words::copy_up(work, at, at + place + 1, own);
 }
 
 // Before a configuration of `words` words is entered in the frame: its own is kept, where a table is wanted and has room for both. Else there is no table.
-pub fn keep(work: &mut [i64], at: usize, room: usize, wanted: bool, words: usize)
-    requires { (at + (room + 2) ≤ length work.old) × (room ≤ max_room) × (words ≤ room) × OwnFits room work.old at }
-    ensures { Keeping room work.old work.new at words }
+pub fn keep(frame: &mut [i64], wanted: bool, words: usize)
+    requires { (words ≤ length frame.old) × OwnFits frame.old }
+    ensures { Keeping frame.old frame.new words }
 {
-    if room < 16 {
+    if frame.len() < LEAST {
         return;
     }
-    if !wanted {
-        words::put(work, at + room - 1, 0);
-        return;
+    if wanted {
+        ready(frame, words);
+        put_own(frame, words);
+    } else {
+        shut(frame);
     }
-    ready(work, at, room, words);
-    put_own(work, at, room, words);
 }

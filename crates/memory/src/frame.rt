@@ -1,52 +1,73 @@
-// A frame of the work area: `room` words for a configuration, their count, and the next position to try in the order of rules.
+// A frame: words for a configuration, their count, and the next position to try in the order of rules. Each function takes a frame's own words.
 // Its layout is known here and in specs/Layout alone.
 ghost use Rattle.std.specs.Prelude.{◌≡◌, ◌+◌, ◌^◌, ◌≤◌, ◌<◌, length};
 ghost use Rattle.memory.specs.Layout.{max_room, base, length_of, position_of, words_of, OwnFits, advanced, entered};
 
-// Where the frame at a depth begins.
+use std::ops::Range;
+
+// The words of a frame that are not its configuration's.
+pub const EXTRA: usize = 2;
+
+// Where the frame at a depth begins in the work area.
 pub fn base_at(room: usize, depth: usize) -> usize
     requires { (room ≤ max_room) × (base room depth < 2 ^ 64) }
     ensures { result ≡ base room depth }
 {
-    depth * (room + 2)
+    depth * (room + EXTRA)
 }
 
-pub fn position(work: &[i64], at: usize, room: usize) -> usize
-    requires { at + (room + 2) ≤ length work.now }
-    ensures { result ≡ position_of room work.now at }
+// Where it lies.
+pub fn place(room: usize, depth: usize) -> Range<usize>
+    requires { (room ≤ max_room) × (base room depth + (room + 2) < 2 ^ 64) }
+    ensures start { result.start ≡ base room depth }
+    ensures end { result.end ≡ base room depth + (room + 2) }
 {
-    words::number_at(work, at + room + 1)
+    let at = base_at(room, depth);
+    at..at + (room + EXTRA)
+}
+
+#[tactic(auto, unfolding(crate::specs::Layout::position_of))]
+pub fn position(frame: &[i64]) -> usize
+    requires { 2 ≤ length frame.now }
+    ensures { result ≡ position_of frame.now }
+{
+    words::number_at(frame, frame.len() - 1)
 }
 
 // How many words the frame's configuration has, 0 where it holds none.
-pub fn length_at(work: &[i64], at: usize, room: usize) -> usize
-    requires { at + (room + 2) ≤ length work.now }
-    ensures { result ≡ length_of room work.now at }
+#[tactic(auto, unfolding(crate::specs::Layout::length_of))]
+pub fn words_in(frame: &[i64]) -> usize
+    requires { 2 ≤ length frame.now }
+    ensures { result ≡ length_of frame.now }
 {
-    words::number_at(work, at + room)
+    words::number_at(frame, frame.len() - 2)
 }
 
-pub fn configuration(work: &[i64], at: usize, room: usize) -> &[i64]
-    requires { (at + (room + 2) ≤ length work.now) × OwnFits room work.now at }
-    ensures { result.now ≡ words_of room work.now at }
+#[tactic(auto, unfolding(crate::specs::Layout::words_of))]
+pub fn configuration(frame: &[i64]) -> &[i64]
+    requires { OwnFits frame.now }
+    ensures { result.now ≡ words_of frame.now }
 {
-    let end = at + length_at(work, at, room);
-    &work[at..end]
+    &frame[..words_in(frame)]
 }
 
-pub fn set_position(work: &mut [i64], at: usize, room: usize, position: usize)
-    requires { (at + (room + 2) ≤ length work.old) × (position < 2 ^ 32) }
-    ensures { work.new ≡ advanced room work.old at position }
+#[tactic(auto, unfolding(crate::specs::Layout::advanced))]
+pub fn set_position(frame: &mut [i64], position: usize)
+    requires { (2 ≤ length frame.old) × (position < 2 ^ 32) }
+    ensures { frame.new ≡ advanced frame.old position }
 {
-    words::put(work, at + room + 1, position);
+    let at = frame.len() - 1;
+    words::put(frame, at, position);
 }
 
 // A frame anew, at position 0.
-pub fn enter(work: &mut [i64], at: usize, room: usize, configuration: &[i64])
-    requires { (at + (room + 2) ≤ length work.old) × (length configuration.now ≤ room) × (room ≤ max_room) }
-    ensures { work.new ≡ entered room work.old at configuration.now }
+#[tactic(auto, unfolding(crate::specs::Layout::entered))]
+pub fn enter(frame: &mut [i64], configuration: &[i64])
+    requires { length configuration.now + 2 ≤ length frame.old }
+    ensures { frame.new ≡ entered frame.old configuration.now }
 {
-    words::copy(work, at, configuration);
-    words::put(work, at + room, configuration.len());
-    set_position(work, at, room, 0);
+    let at = frame.len() - 2;
+    words::copy(frame, 0, configuration);
+    words::put(frame, at, configuration.len());
+    set_position(frame, 0);
 }

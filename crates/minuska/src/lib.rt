@@ -59,9 +59,32 @@ pub enum ReplayAnswer {
     NotReproduced,
 }
 
-// The index of a table: a row of numbers for each of at most 256 rules (specs/Bridge/Place). A table's check fills it; every routine on checked words is lent it.
-pub const PER_RULE: usize = 8;
+// A rule's row in a table's index (specs/Bridge/Place): where its left, its right and its conditions start and where it ends, counted from the first rule; the key of its left's root;
+// its action; and the sizes of its right.
+#[derive(Clone, Copy)]
+pub struct Row {
+    pub left: u16,
+    pub right: u16,
+    pub conditions: u16,
+    pub end: u16,
+    pub key: u16,
+    pub action: u16,
+    pub fixed: u16,
+    pub leaves: u16,
+}
 
-pub const INDEX_LEN: usize = limits::MAX_RULES * PER_RULE;
+impl Row {
+    pub const EMPTY: Row = Row {
+        left: 0,
+        right: 0,
+        conditions: 0,
+        end: 0,
+        key: 0,
+        action: 0,
+        fixed: 0,
+        leaves: 0,
+    };
+}
 
-pub type Index = [u16; INDEX_LEN];
+// The index of a table: a row for each of at most 256 rules. A table's check fills it; every routine on checked words is lent it.
+pub type Index = [Row; limits::MAX_RULES];

@@ -18,8 +18,7 @@ use Rattle.minuska.specs.Slice.{out_limit, replay_answer, replay_out, replay_cho
 use Rattle.minuska.specs.Contract.{ReplayContract}
 use Rattle.minuska.specs.Computed.Replay.{replay}
 use Rattle.minuska.specs.Computed.Outcome.{replay_short, replay_outcome}
-use Rattle.minuska.specs.declared.Check.{Check}
-use Rattle.minuska.specs.declared.Check.TheVariants.{Good, Refused}
+use Rattle.std.specs.Prelude.{Option, Result, Ok, Err}
 use Rattle.minuska.specs.declared.Refusal.{Refusal}
 use Rattle.minuska.proofs.ContractLaw.{replay_contract}
 use Rattle.minuska.proofs.ShutLaw.{replay_outcome_is, replay_out_refused, replay_choices_refused, replay_work_refused, replay_work_gives}
@@ -28,13 +27,13 @@ use Rattle.minuska.specs.Bridge.Place.{RuleCountIs}
 use Rattle.minuska.proofs.Bridge.AcceptedLaw.{configuration_length, refused_first}
 use Rattle.step.specs.Accept.{AcceptContract}
 use Rattle.sizes.specs.Sizes.{size_check, SizesHold}
-use Rattle.sizes.proofs.SizesLaw.{neither, sizes_refuse, sizes_pass}
+use Rattle.sizes.proofs.SizesLaw.{neither, sized, sizes_refuse, sizes_pass}
 use Rattle.memory.specs.Layout.{base}
-use Rattle.replay.specs.declared.CountedAnswer.{CountedAnswer}
-use Rattle.replay.specs.declared.CountedAnswer.TheVariants as A
 use Rattle.replay.specs.Reading.{table_of, term_of}
 use Rattle.replay.specs.Counted.{counted_answer, uncounted, CountedContract}
-use Rattle.replay.specs.Turns.{SearchRoom}
+use Rattle.memory.specs.Layout.{max_room}
+use Rattle.minuska.specs.Computed.Step.{order}
+use Rattle.replay.specs.Turns.{SlicesFit}
 use Rattle.replay.specs.Endings.{AcceptedContract}
 use Rattle.replay.proofs.ReadingLaw.{is_table_lem, is_term}
 
@@ -46,6 +45,10 @@ uncounted_is (gives (reproduced ns h)) = refl
 uncounted_is (gives exceeded) = refl
 uncounted_is (gives not_reproduced) = refl
 
+-- what the check of the sizes says, by the slices' lengths
+pub size_is : (a b : Bool) (count nodes limit : ℕ) (x y : Result (Unit {0}) Refusal) → x ≡ size_check count max_actions nodes limit a → a ≡ b → x ≡ y → size_check count max_actions nodes limit b ≡ y
+size_is a b count nodes limit x y e f g = ap (size_check count max_actions nodes limit) (sym f) ∙ sym e ∙ g
+
 module _ (ws cs : List ℤ) (log : List ℕ) (limit : ℕ) (out : List ℤ) (choices : List ℕ) (work : List ℤ) where
   abbrev outcome : Outcome (ReplayResult Term)
   outcome = replay_outcome ws cs log limit (length out) (length choices) (length work)
@@ -53,37 +56,46 @@ module _ (ws cs : List ℤ) (log : List ℕ) (limit : ℕ) (out : List ℤ) (cho
   abbrev short : Bool
   short = replay_short limit log (length out) (length choices) (length work)
 
+  pub sizes_hold : (b : Bool) (x : Result (Unit {0}) Refusal) → x ≡ size_check (length log) max_actions (length cs / 2) limit b → b ≡ short → x ≡ Ok tt → SizesHold (length log) max_actions (length cs / 2) limit short
+  sizes_hold b x e f g = sized (length log) max_actions (length cs / 2) limit short (size_is b short (length log) (length cs / 2) limit x (Ok tt) e f g)
+
   -- what is answered and left is the outcome's
-  counted : (out' : List ℤ) (choices' : List ℕ) (work' : List ℤ) (r : CountedAnswer) → r ≡ counted_answer outcome → out' ≡ replay_out outcome out → choices' ≡ replay_choices outcome choices → work' ≡ replay_work limit log outcome work
+  counted : (out' : List ℤ) (choices' : List ℕ) (work' : List ℤ) (r : Result (Option ℕ) Refusal) → r ≡ counted_answer outcome → out' ≡ replay_out outcome out → choices' ≡ replay_choices outcome choices → work' ≡ replay_work limit log outcome work
       → CountedContract ws cs log limit out choices work out' choices' work' r
   counted out' choices' work' r e f g h =
       let k : ReplayContract ws cs log limit out choices work out' choices' work' (uncounted r) = replay_contract ws cs log limit out choices work out' choices' work' (uncounted r) (ap uncounted e ∙ uncounted_is outcome) f g h in
       record { replays = k; counts = e ∙ ap counted_answer (sym k.is) }
 
   -- a refusal: every slice keeps its words
-  pub refusal : (e : Refusal) → outcome ≡ refused e → CountedContract ws cs log limit out choices work out choices work (A.Refused e)
+  pub refusal : (e : Refusal) → outcome ≡ refused e → CountedContract ws cs log limit out choices work out choices work (Err e)
   unfolding counted_answer
   refusal e h =
-      counted out choices work (A.Refused e) (ap counted_answer (sym h))
+      counted out choices work (Err e) (ap counted_answer (sym h))
       (sym (ap (λ (o : Outcome (ReplayResult Term)). replay_out o out) h ∙ replay_out_refused out e))
       (sym (ap (λ (o : Outcome (ReplayResult Term)). replay_choices o choices) h ∙ replay_choices_refused choices e))
       (sym (ap (λ (o : Outcome (ReplayResult Term)). replay_work limit log o work) h ∙ replay_work_refused work limit log e))
 
   -- ---- 1 and 2
-  pub not_accepted : (index index' : List ℕ) (r : Check) (e : Refusal) → AcceptContract ws cs index index' r → r ≡ Refused e → CountedContract ws cs log limit out choices work out choices work (A.Refused e)
+  pub not_accepted : (index index' : List ℕ) (r : Result (Unit {0}) Refusal) (e : Refusal) → AcceptContract ws cs index index' r → r ≡ Err e → CountedContract ws cs log limit out choices work out choices work (Err e)
   not_accepted index index' r e a h =
       refusal e (replay_outcome_is ws cs log limit (length out) (length choices) (length work) ∙ refused_first ws cs _ e (sym a.answer ∙ h))
 
   -- ---- the words are accepted
-  module _ (index₀ index : List ℕ) (r : Check) (a : AcceptContract ws cs index₀ index r) (h : r ≡ Good) where
+  module _ (index₀ index : List ℕ) (r : Result (Unit {0}) Refusal) (a : AcceptContract ws cs index₀ index r) (h : r ≡ Ok tt) where
     table : IsTable ws (table_of ws)
     table = is_table_lem ws (a.indexed h).table (a.indexed h).is
 
     config : IsConfiguration cs (term_of cs)
     config = is_term cs (a.accepted h)
 
+    -- the rules that a step tries
+    pub counted_rules : (rules : ℕ) → RuleCountIs ws rules → (rules ≡ length (order (table_of ws))) × (rules ≤ 256)
+    counted_rules rules k =
+        let e = k.is (table_of ws) table in
+        (e ∙ sym (order_length (table_of ws)), let b = few_rules (table_of ws) table.accepted in omega arith)
+
     -- 3, 4 and 5
-    pub not_sized : (e : Refusal) → size_check (length log) max_actions (length cs / 2) limit short ≡ Refused e → CountedContract ws cs log limit out choices work out choices work (A.Refused e)
+    pub not_sized : (e : Refusal) → size_check (length log) max_actions (length cs / 2) limit short ≡ Err e → CountedContract ws cs log limit out choices work out choices work (Err e)
     not_sized e s =
         refusal e (replay_outcome_is ws cs log limit (length out) (length choices) (length work) ∙ sizes_refuse ws cs (table_of ws) (term_of cs) table config (λ u v. replay u limit log v) (length log) max_actions limit short e s)
 
@@ -98,10 +110,11 @@ module _ (ws cs : List ℤ) (log : List ℕ) (limit : ℕ) (out : List ℤ) (cho
       frames : base (2 * limit) (length log) + (2 * limit + 2) ≡ work_words limit log
       frames = sym (suc-mul (length log) (2 * limit + 2)) ∙ ap (λ (k : ℕ). k * (2 * limit + 2)) (sym (add-one (length log)))
 
-      pub room_fits : (rules : ℕ) → RuleCountIs ws rules → SearchRoom ws index rules (2 * limit) log out work
-      room_fits rules k =
-          let e = k.is (table_of ws) table in
-          record { indexed = a.indexed h; rules_are = e ∙ sym (order_length (table_of ws)); few = let b = few_rules (table_of ws) table.accepted in omega arith; narrow = omega (arith, f.bounded); out_fits = roomy.0; work_fits = omega (arith, frames, roomy.2) }
+      pub lent : SlicesFit (2 * limit) log out work
+      lent = record { out_fits = roomy.0; work_fits = omega (arith, frames, roomy.2) }
+
+      pub narrow : 2 * limit ≤ max_room
+      narrow = omega (arith, f.bounded)
 
       pub slices_fit : (length cs ≤ 2 * limit) × (length log ≤ length choices)
       slices_fit = (omega (arith, f.fits, configuration_length cs (term_of cs) config), roomy.1)
@@ -114,7 +127,7 @@ module _ (ws cs : List ℤ) (log : List ℕ) (limit : ℕ) (out : List ℤ) (cho
           ap (λ (n : ℕ). gives (replay (table_of ws) n log (term_of cs))) within
           ∙ sym (replay_outcome_is ws cs log limit (length out) (length choices) (length work) ∙ sizes_pass ws cs (table_of ws) (term_of cs) table config (λ u v. replay u limit log v) (length log) max_actions limit short f)
 
-      pub called : (out' : List ℤ) (choices' : List ℕ) (work' : List ℤ) (x : CountedAnswer) → AcceptedContract ws cs log (2 * limit) out choices work out' choices' work' x → CountedContract ws cs log limit out choices work out' choices' work' x
+      pub called : (out' : List ℤ) (choices' : List ℕ) (work' : List ℤ) (x : Result (Option ℕ) Refusal) → AcceptedContract ws cs log (2 * limit) out choices work out' choices' work' x → CountedContract ws cs log limit out choices work out' choices' work' x
       called out' choices' work' x k =
           counted out' choices' work' x (k.answer ∙ ap counted_answer answers)
           (k.leaves ∙ ap (λ (o : Outcome (ReplayResult Term)). replay_out o out) answers)

@@ -1,188 +1,155 @@
--- Frames that the search may stand at, after a store: those below it stay, the one that goes on, the one that is entered.
+-- Frames that the search may stand at, after a store in one of them: the others stay, the one that goes on, the one that is entered.
 use mathlib.Core.Path.{◌≡◌, sym, ap, ◌∙◌, subst, subst⁻¹}
 use mathlib.Core.Logic.{◌⊎◌, inl, inr}
 use mathlib.Core.List.{List}
 use Prim.Native.Nat.{ℕ, suc, ◌+◌, ◌≤◌, ◌<◌}
 use native.Mathlib.Omega.{arith}
 use native.Mathlib.Decide.{dec_lt}
-use lib.IntN.{ℤ, pos}
-use lib.ListN.{length, get_or, take}
+use lib.IntN.{ℤ}
+use lib.ListN.{length}
 use Rattle.minuska.specs.Bridge.Place.{Accepted}
-use Rattle.replay.specs.Reading.{term_of}
 use Rattle.minuska.specs.Term.{Term}
-use Rattle.memory.specs.Layout.{base, position_of, words_of, OwnFits, advanced, Enters}
-use Rattle.replay.specs.Turns.{term_at, position_at, Framed, SoundFrames, Held}
-use Rattle.words.proofs.PartLaw.{word_below, word_behind}
-use Rattle.memory.specs.Memory.{Entry, Known, Keeps}
-use Rattle.memory.proofs.MemoryLaw.{still_entry}
-use Rattle.memory.proofs.LayoutLaw.{frame_before, position_same, length_same, words_same, still_length, still_words, still_spare, advanced_long, advanced_below, advanced_other, advanced_position}
+use Rattle.memory.specs.Layout.{base, frame_at, with_frame, position_of, words_of, OwnFits, advanced, Enters}
+use Rattle.memory.specs.Memory.{Known, Keeps}
+use Rattle.memory.proofs.MemoryLaw.{advanced_entry}
+use Rattle.memory.proofs.LayoutLaw.{frame_long, with_same, with_other, advanced_long, advanced_length, advanced_words, advanced_position}
+use Rattle.replay.specs.Reading.{term_of}
+use Rattle.replay.specs.Turns.{term_at, position_at, Framed, SoundFrames, HeldIn, Held}
 
--- ---- below what was written
-module _ (rules room : ℕ) (w w' : List ℤ) (lo : ℕ) (same : take lo w' ≡ take lo w) (at : ℕ) (under : at + (room + 2) ≤ lo) (f : Framed rules room w at) where
-  words_below : words_of room w' at ≡ words_of room w at
-  words_below = words_same room w w' lo same at (omega arith) f.long
+-- ---- the frame at depth d is another
+module _ (room : ℕ) (w : List ℤ) (d : ℕ) (f : List ℤ) (fits : base room d + (room + 2) ≤ length w) (wide : length f ≡ room + 2) where
+  abbrev w' : List ℤ
+  w' = with_frame room w d f
 
-  position_below : position_of room w' at ≡ position_of room w at
-  position_below = position_same room w w' lo same at under
+  here : frame_at room w' d ≡ f
+  here = with_same room w d f fits wide
 
-  framed_below : Framed rules room w' at
-  framed_below =
-      record {
-        long = subst⁻¹ (λ (k : ℕ). k ≤ room) (length_same room w w' lo same at (omega arith)) f.long;
-        accepted = subst⁻¹ Accepted words_below f.accepted;
-        position = subst⁻¹ (λ (k : ℕ). k ≤ rules) position_below f.position;
-      }
+  other : (i : ℕ) → (i ≡ d → ⊥) → frame_at room w' i ≡ frame_at room w i
+  other i n = with_other room w d f fits wide i n
 
--- ---- what is held for a depth, where its frame stands as it was
-module _ (room m : ℕ) (w w' : List ℤ) (d e i : ℕ) (u : Term) (le : d ≤ e) (long : length w' ≡ length w) (same : (j : ℕ) → base room i ≤ j → j < base room i + (room + 1) → get_or w' j (pos 0) ≡ get_or w j (pos 0)) (sp : i < m → OwnFits room w (base room i)) where
-  held_still : Held room m w' e i u → Held room m w d i u
-  held_still (inl h) =
-      inl (
-        omega (arith, h.0),
-        h.1,
-        subst (λ (k : ℕ). 0 < k) (still_length room w w' (base room i) long same) h.2,
-        ap term_of (sym (still_words room w w' (base room i) long same (sp h.1))) ∙ h.3,
-      )
-  held_still (inr h) = inr (h.0, h.1, h.2, still_entry room w w' (base room i) long same h.0 h.3, h.4)
+  below : (i : ℕ) → i < d → frame_at room w' i ≡ frame_at room w i
+  below i h = other i (λ e. let x : ⊥ = omega arith in x)
+
+  -- a fact of each frame, of the new one too
+  each : (P : ℕ → List ℤ → Type 0) → ((i : ℕ) → (i ≡ d → ⊥) → P i (frame_at room w i)) → P d f → (i : ℕ) → P i (frame_at room w' i)
+  each P old new i = side (dec_lt i d) (dec_lt d i)
+    where
+      side : Dec (i < d) → Dec (d < i) → P i (frame_at room w' i)
+      side (yes h) k = subst⁻¹ (P i) (below i h) (old i (λ e. let x : ⊥ = omega arith in x))
+      side (no h) (yes k) = subst⁻¹ (P i) (other i (λ e. let x : ⊥ = omega arith in x)) (old i (λ e. let x : ⊥ = omega arith in x))
+      side (no h) (no k) =
+          let e : d ≡ i = omega arith in
+          subst (λ (x : ℕ). P x (frame_at room w' x)) e (subst⁻¹ (P d) here new)
 
 -- ---- the frame at depth d goes on to a position
 module _ (rules room m : ℕ) (w : List ℤ) (d p : ℕ) (fits : base room d + (room + 2) ≤ length w) (s : SoundFrames rules room m w d) where
-  w₁ : List ℤ
-  w₁ = advanced room w (base room d) p
+  abbrev frame : List ℤ
+  frame = frame_at room w d
 
-  abbrev lo : ℕ
-  lo = base room d + room + 1
+  abbrev w₁ : List ℤ
+  w₁ = with_frame room w d (advanced frame p)
 
-  same₁ : take lo w₁ ≡ take lo w
-  unfolding w₁
-  same₁ = advanced_below room w (base room d) p fits
+  framed : Framed rules frame
+  framed = s.frames d (omega arith)
 
-  long₁ : length w₁ ≡ length w
-  unfolding w₁
-  long₁ = advanced_long room w (base room d) p fits
+  there : 2 ≤ length frame
+  there = omega (arith, frame_long room w d fits)
 
-  -- no frame has another word, but its next position
-  frame₁ : (i j : ℕ) → base room i ≤ j → j < base room i + (room + 1) → get_or w₁ j (pos 0) ≡ get_or w j (pos 0)
-  unfolding w₁
-  frame₁ i j a b = advanced_other room w (base room d) p fits j (λ e. apart e (dec_lt i d) (dec_lt d i))
+  pub on_long : length (advanced frame p) ≡ room + 2
+  on_long = advanced_long frame p there ∙ frame_long room w d fits
+
+  pub on_terms : (i : ℕ) → i < d → term_at room w₁ i ≡ term_at room w i
+  on_terms i h = ap (λ (l : List ℤ). term_of (words_of l)) (below room w d (advanced frame p) fits on_long i h)
+
+  words_on : words_of (advanced frame p) ≡ words_of frame
+  words_on = advanced_words frame p there framed.long
+
+  pub on_top : term_at room w₁ d ≡ term_at room w d
+  on_top = ap (λ (l : List ℤ). term_of (words_of l)) (here room w d (advanced frame p) fits on_long) ∙ ap term_of words_on
+
+  pub on_positions : (i : ℕ) → i < d → position_at room w₁ i ≡ position_at room w i
+  on_positions i h = ap position_of (below room w d (advanced frame p) fits on_long i h)
+
+  pub on_position : position_at room w₁ d ≡ p
+  on_position = ap position_of (here room w d (advanced frame p) fits on_long) ∙ advanced_position frame p there
+
+  pub on_held : (i : ℕ) (u : Term) → Held room m w₁ d i u → Held room m w d i u
+  on_held = each room w d (advanced frame p) fits on_long (λ (i : ℕ) (l : List ℤ). (u : Term) → HeldIn m d l i u → Held room m w d i u) (λ i n u h. h) at
     where
-      apart : j ≡ base room d + room + 1 → Dec (i < d) → Dec (d < i) → ⊥
-      apart e (yes h) k = omega (arith, frame_before room i d h)
-      apart e (no h) (yes k) = omega (arith, frame_before room d i k)
-      apart e (no h) (no k) =
-          let z : i ≡ d = omega arith in
-          omega (arith, ap (base room) z)
+      at : (u : Term) → HeldIn m d (advanced frame p) d u → Held room m w d d u
+      at u (inl h) = absurd (let x : ⊥ = omega (arith, h.0) in x)
+      at u (inr h) = inr (h.0, h.1, h.2, advanced_entry frame p there h.0 h.3, h.4)
 
-  under₁ : (i : ℕ) → i < d → base room i + (room + 2) ≤ lo
-  under₁ i h = omega (arith, frame_before room i d h)
+  own_on : OwnFits frame → OwnFits (advanced frame p)
+  own_on h = omega (arith, advanced_length frame p there, advanced_long frame p there)
 
-  words₁ : words_of room w₁ (base room d) ≡ words_of room w (base room d)
-  words₁ = words_same room w w₁ lo same₁ (base room d) (omega arith) (s.frames d (omega arith)).long
-
-  pub on_terms : (i : ℕ) → i < d → term_at room (advanced room w (base room d) p) i ≡ term_at room w i
-  unfolding w₁
-  on_terms i h = ap term_of (words_below rules room w w₁ lo same₁ (base room i) (under₁ i h) (s.frames i (omega arith)))
-
-  pub on_top : term_at room (advanced room w (base room d) p) d ≡ term_at room w d
-  unfolding w₁
-  on_top = ap term_of words₁
-
-  pub on_positions : (i : ℕ) → i < d → position_at room (advanced room w (base room d) p) i ≡ position_at room w i
-  unfolding w₁
-  on_positions i h = position_same room w w₁ lo same₁ (base room i) (under₁ i h)
-
-  pub on_position : position_at room (advanced room w (base room d) p) d ≡ p
-  on_position = advanced_position room w (base room d) p fits
-
-  pub on_held : (i : ℕ) (u : Term) → Held room m (advanced room w (base room d) p) d i u → Held room m w d i u
-  unfolding w₁
-  on_held i u h = held_still room m w w₁ d d i u (omega arith) long₁ (frame₁ i) (s.spare i) h
-
-  pub on_sound : p ≤ rules → SoundFrames rules room m (advanced room w (base room d) p) d
-  unfolding w₁
-  on_sound h = record { frames = λ i k. at i k (dec_lt i d); begun = λ i k. subst⁻¹ (λ (x : ℕ). 0 < x) (on_positions i k) (s.begun i k); spare = λ i k. still_spare room w w₁ (base room i) long₁ (frame₁ i) (s.spare i k) }
-    where
-      at : (i : ℕ) → i ≤ d → Dec (i < d) → Framed rules room w₁ (base room i)
-      at i k (yes q) = framed_below rules room w w₁ lo same₁ (base room i) (under₁ i q) (s.frames i k)
-      at i k (no q) =
-          let e : d ≡ i = omega arith in
-          let f = s.frames d (omega arith) in
-          subst (λ (x : ℕ). Framed rules room w₁ (base room x)) e
-          (record {
-            long = subst⁻¹ (λ (x : ℕ). x ≤ room) (length_same room w w₁ lo same₁ (base room d) (omega arith)) f.long;
-            accepted = subst⁻¹ Accepted words₁ f.accepted;
-            position = subst⁻¹ (λ (x : ℕ). x ≤ rules) on_position h;
-          })
+  pub on_sound : p ≤ rules → SoundFrames rules room m w₁ d
+  on_sound h =
+      record {
+        frames = each room w d (advanced frame p) fits on_long (λ (i : ℕ) (l : List ℤ). i ≤ d → Framed rules l) (λ i n k. s.frames i k)
+            (λ k. record { long = own_on framed.long; accepted = subst⁻¹ Accepted words_on framed.accepted; position = subst⁻¹ (λ (x : ℕ). x ≤ rules) (advanced_position frame p there) h });
+        begun = λ i k. subst⁻¹ (λ (x : ℕ). 0 < x) (on_positions i k) (s.begun i k);
+        spare = each room w d (advanced frame p) fits on_long (λ (i : ℕ) (l : List ℤ). i < m → OwnFits l) (λ i n k. s.spare i k) (λ k. own_on framed.long);
+      }
 
 -- ---- the frame at depth j is entered, those below it stand
-module _ (rules room m : ℕ) (w w' : List ℤ) (j : ℕ) (c : List ℤ) (small : length c ≤ room) (ent : Enters room w w' (base room j) c) (fs : (i : ℕ) → i < j → Framed rules room w (base room i)) where
-  pub in_terms : (i : ℕ) → i < j → term_at room w' i ≡ term_at room w i
-  in_terms i h = ap term_of (words_below rules room w w' (base room j) ent.below (base room i) (frame_before room i j h) (fs i h))
+module _ (rules room m : ℕ) (w : List ℤ) (j : ℕ) (f c : List ℤ) (fits : base room j + (room + 2) ≤ length w) (small : length c ≤ room) (ent : Enters (frame_at room w j) f c) where
+  abbrev w₂ : List ℤ
+  w₂ = with_frame room w j f
 
-  pub in_positions : (i : ℕ) → i < j → position_at room w' i ≡ position_at room w i
-  in_positions i h = position_same room w w' (base room j) ent.below (base room i) (frame_before room i j h)
+  pub in_long : length f ≡ room + 2
+  in_long = ent.wide ∙ frame_long room w j fits
 
-  pub in_top : term_at room w' j ≡ term_of c
-  in_top = ap term_of ent.words
+  pub in_terms : (i : ℕ) → i < j → term_at room w₂ i ≡ term_at room w i
+  in_terms i h = ap (λ (l : List ℤ). term_of (words_of l)) (below room w j f fits in_long i h)
 
-  -- the other frames
-  frame₂ : (i : ℕ) → (i ≡ j → ⊥) → (k : ℕ) → base room i ≤ k → k < base room i + (room + 1) → get_or w' k (pos 0) ≡ get_or w k (pos 0)
-  frame₂ i n k a b = side (dec_lt i j) (dec_lt j i)
-    where
-      side : Dec (i < j) → Dec (j < i) → get_or w' k (pos 0) ≡ get_or w k (pos 0)
-      side (yes h) x = word_below w w' (base room j) ent.below k (omega (arith, frame_before room i j h))
-      side (no h) (yes x) = word_behind w w' (base room j + (room + 2)) ent.behind k (omega (arith, frame_before room j i x))
-      side (no h) (no x) = absurd (n (omega arith))
+  pub in_positions : (i : ℕ) → i < j → position_at room w₂ i ≡ position_at room w i
+  in_positions i h = ap position_of (below room w j f fits in_long i h)
+
+  pub in_top : term_at room w₂ j ≡ term_of c
+  in_top = ap (λ (l : List ℤ). term_of (words_of l)) (here room w j f fits in_long) ∙ ap term_of ent.words
+
+  pub in_position : position_at room w₂ j ≡ 0
+  in_position = ap position_of (here room w j f fits in_long) ∙ ent.position
 
   -- held for another depth, it was held
-  pub entered_held : (d i : ℕ) (u : Term) → d ≤ j → (i ≡ j → ⊥) → (i < m → OwnFits room w (base room i)) → Held room m w' j i u → Held room m w d i u
-  entered_held d i u le n sp h = held_still room m w w' d j i u le ent.wide (frame₂ i n) sp h
+  pub entered_held : (d i : ℕ) (u : Term) → d ≤ j → (i ≡ j → ⊥) → Held room m w₂ j i u → Held room m w d i u
+  entered_held d i u le n h = earlier (subst (λ (l : List ℤ). HeldIn m j l i u) (other room w j f fits in_long i n) h)
+    where
+      earlier : Held room m w j i u → Held room m w d i u
+      earlier (inl k) = inl (omega (arith, k.0), k.1, k.2, k.3)
+      earlier (inr k) = inr k
 
   -- held for this one, it was held, or stood in the frame
-  pub in_held : ((i : ℕ) → i < m → OwnFits room w (base room i)) → Keeps room w w' (base room j) → (d i : ℕ) (u : Term) → d < j → Held room m w' j i u → Held room m w d i u
-  in_held sp ks d i u l h = side (dec_lt i j) (dec_lt j i) h
+  pub in_held : Keeps (frame_at room w j) f → (d i : ℕ) (u : Term) → d < j → Held room m w₂ j i u → Held room m w d i u
+  in_held ks d i u l h = side (dec_lt i j) (dec_lt j i) h
     where
-      this : (i : ℕ) → j ≡ i → Held room m w' j i u → Held room m w d i u
-      this i e (inl h) = absurd (let f : ⊥ = omega (arith, h.0) in f)
-      this i e (inr h) =
-          let old = ks h.0 (subst⁻¹ (λ (x : ℕ). Entry room w' (base room x) h.0) e h.3) in
-          subst (λ (x : ℕ). Held room m w d x u) e (from old)
+      this : HeldIn m j f j u → Held room m w d j u
+      this (inl k) = absurd (let x : ⊥ = omega (arith, k.0) in x)
+      this (inr k) = from (ks k.0 k.3)
         where
-          from : Known room w (base room j) h.0 → Held room m w d j u
-          from (inl f) = inr (h.0, omega arith, omega (arith, h.2), f, h.4)
-          from (inr f) = inl (l, omega (arith, h.2), f.0, ap term_of (sym f.1) ∙ h.4)
+          from : Known (frame_at room w j) k.0 → Held room m w d j u
+          from (inl e) = inr (k.0, k.1, k.2, e, k.4)
+          from (inr e) = inl (l, k.2, e.0, ap term_of (sym e.1) ∙ k.4)
 
-      side : Dec (i < j) → Dec (j < i) → Held room m w' j i u → Held room m w d i u
-      side (yes q) x k = entered_held d i u (omega arith) (λ e. let f : ⊥ = omega arith in f) (sp i) k
-      side (no q) (yes x) k = entered_held d i u (omega arith) (λ e. let f : ⊥ = omega arith in f) (sp i) k
-      side (no q) (no x) k = this i (omega arith) k
-
-  pub in_sound : Accepted c → ((i : ℕ) → i < j → 0 < position_at room w i) → ((i : ℕ) → i < m → (i ≡ j → ⊥) → OwnFits room w (base room i)) → SoundFrames rules room m w' j
-  in_sound acc beg sp = record { frames = λ i k. at i k (dec_lt i j); begun = λ i k. subst⁻¹ (λ (x : ℕ). 0 < x) (in_positions i k) (beg i k); spare = λ i k. spares i k (dec_lt i j) (dec_lt j i) }
-    where
-      entered_frame : Framed rules room w' (base room j)
-      entered_frame =
-          record {
-            long = subst⁻¹ (λ (x : ℕ). x ≤ room) ent.long small;
-            accepted = subst⁻¹ Accepted ent.words acc;
-            position = subst⁻¹ (λ (x : ℕ). x ≤ rules) ent.position (omega arith);
-          }
-
-      at : (i : ℕ) → i ≤ j → Dec (i < j) → Framed rules room w' (base room i)
-      at i k (yes q) = framed_below rules room w w' (base room j) ent.below (base room i) (frame_before room i j q) (fs i q)
-      at i k (no q) =
+      side : Dec (i < j) → Dec (j < i) → Held room m w₂ j i u → Held room m w d i u
+      side (yes q) x k = entered_held d i u (omega arith) (λ e. let y : ⊥ = omega arith in y) k
+      side (no q) (yes x) k = entered_held d i u (omega arith) (λ e. let y : ⊥ = omega arith in y) k
+      side (no q) (no x) k =
           let e : j ≡ i = omega arith in
-          subst (λ (x : ℕ). Framed rules room w' (base room x)) e entered_frame
+          subst (λ (x : ℕ). Held room m w₂ j x u → Held room m w d x u) e (λ k. this (subst (λ (l : List ℤ). HeldIn m j l j u) (here room w j f fits in_long) k)) k
 
-      other : (i : ℕ) → i < m → (i ≡ j → ⊥) → OwnFits room w' (base room i)
-      other i k n = still_spare room w w' (base room i) ent.wide (frame₂ i n) (sp i k n)
+  own_in : OwnFits f
+  own_in = omega (arith, ent.long, in_long)
 
-      spares : (i : ℕ) → i < m → Dec (i < j) → Dec (j < i) → OwnFits room w' (base room i)
-      spares i k (yes q) x = other i k (λ e. let f : ⊥ = omega arith in f)
-      spares i k (no q) (yes x) = other i k (λ e. let f : ⊥ = omega arith in f)
-      spares i k (no q) (no x) =
-          let e : j ≡ i = omega arith in
-          subst (λ (y : ℕ). OwnFits room w' (base room y)) e entered_frame.long
+  pub in_sound : Accepted c → ((i : ℕ) → i < j → Framed rules (frame_at room w i)) → ((i : ℕ) → i < j → 0 < position_at room w i) → ((i : ℕ) → i < m → (i ≡ j → ⊥) → OwnFits (frame_at room w i)) → SoundFrames rules room m w₂ j
+  in_sound acc fs beg sp =
+      record {
+        frames = each room w j f fits in_long (λ (i : ℕ) (l : List ℤ). i ≤ j → Framed rules l) (λ i n k. fs i (omega arith))
+            (λ k. record { long = own_in; accepted = subst⁻¹ Accepted ent.words acc; position = subst⁻¹ (λ (x : ℕ). x ≤ rules) ent.position (omega arith) });
+        begun = λ i k. subst⁻¹ (λ (x : ℕ). 0 < x) (in_positions i k) (beg i k);
+        spare = each room w j f fits in_long (λ (i : ℕ) (l : List ℤ). i < m → OwnFits l) (λ i n k. sp i k n) (λ k. own_in);
+      }
 
 -- back from depth d: its configuration is held
 pub back_held : (room m : ℕ) (w : List ℤ) (d i : ℕ) (u : Term) → Held room m w d i u → Held room m w (suc d) i u ⊎ ((suc d ≡ i) × (term_at room w (suc d) ≡ u))

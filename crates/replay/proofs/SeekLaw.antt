@@ -14,14 +14,8 @@ use Rattle.minuska.specs.Bridge.Place.{Indexed}
 use Rattle.minuska.proofs.Bridge.PositionLaw.{element_at, element_there, few_rules, order_names, next_other}
 use Rattle.minuska.specs.Bridge.Place.{ActionIs, OrderedIs}
 use Rattle.replay.specs.Reading.{table_of}
-use Rattle.replay.specs.Turns.{Carries, Sought}
+use Rattle.replay.specs.Turns.{Carries, Skipped, Sought}
 use Rattle.replay.proofs.ReadingLaw.{is_table_lem}
-
--- where a search for a rule that carries an action has come: the positions passed give nothing
-pub record Seeking (t : Table) (a from rules p : ℕ) : Type 0 where
-  pub above : from ≤ p
-  pub within : p ≤ rules
-  pub skipped : (q : ℕ) → from ≤ q → q < p → (g : Term) → next t a (get_or (order t) q 0) g ≡ none
 
 module _ (ws : List ℤ) (index : List ℕ) (indexed : Indexed ws index) where
   abbrev t : Table
@@ -46,30 +40,19 @@ module _ (ws : List ℤ) (index : List ℕ) (indexed : Indexed ws index) where
     pub gives_none : (g : Term) → (b ≡ a → ⊥) → next t a (rule q) g ≡ none
     gives_none g e = let r = element_there t (rule q) (order_names t q h) in next_other t a (rule q) r.0 r.1 g (λ f. e (is.is t r.0 good r.1 ∙ f))
 
-  -- ---- the loop
-  module _ (a from rules : ℕ) (all : rules ≡ length (order t)) where
-    pub seek_start : from ≤ rules → Seeking t a from rules from
-    seek_start h = record { above = omega arith; within = h; skipped = λ q i j g. absurd (let f : ⊥ = omega arith in f) }
+  -- ---- the loop, at position p, as the code sees the rule there
+  module _ (a from p r b : ℕ) (s : Skipped t a from p) (here : p < length (order t)) (o : OrderedIs ws p r) (is : ActionIs ws r b) where
+    acts : ActionIs ws (rule p) b
+    acts = subst (λ (x : ℕ). ActionIs ws x b) (ordered_is p r here o) is
 
-    -- the rule at p, as the code sees it
-    module _ (p r b : ℕ) (s : Seeking t a from rules p) (h : p < rules) (o : OrderedIs ws p r) (is : ActionIs ws r b) where
-      here : p < length (order t)
-      here = omega arith
+    pub seek_found : from ≤ p → b ≡ a → Sought t (length (order t)) a from p
+    seek_found above e = record { above = above; within = here; skipped = s; carried = carries p b a here acts e }
 
-      acts : ActionIs ws (rule p) b
-      acts = subst (λ (x : ℕ). ActionIs ws x b) (ordered_is p r here o) is
-
-      pub seek_found : b ≡ a → Sought t rules a from p
-      seek_found e = record { above = s.above; within = s.within; skipped = s.skipped; carried = λ l. carries p b a here acts e }
-
-      pub seek_on : (b ≡ a → ⊥) → Seeking t a from rules (p + 1)
-      seek_on e = record { above = omega (arith, s.above); within = omega arith; skipped = λ q i j g. at q i j g (dec_lt q p) }
-        where
-          at : (q : ℕ) → from ≤ q → q < p + 1 → (g : Term) → Dec (q < p) → next t a (rule q) g ≡ none
-          at q i j g (yes k) = s.skipped q i k g
-          at q i j g (no k) =
-              let f : p ≡ q = omega arith in
-              subst (λ (x : ℕ). next t a (rule x) g ≡ none) f (gives_none p b a here acts g e)
-
-    pub seek_end : (p : ℕ) → Seeking t a from rules p → rules ≤ p → Sought t rules a from p
-    seek_end p s h = record { above = s.above; within = s.within; skipped = s.skipped; carried = λ l. absurd (let f : ⊥ = omega arith in f) }
+    pub seek_on : (b ≡ a → ⊥) → Skipped t a from (p + 1)
+    seek_on e = λ q i j g. at q i j g (dec_lt q p)
+      where
+        at : (q : ℕ) → from ≤ q → q < p + 1 → (g : Term) → Dec (q < p) → next t a (rule q) g ≡ none
+        at q i j g (yes k) = s q i k g
+        at q i j g (no k) =
+            let f : p ≡ q = omega arith in
+            subst (λ (x : ℕ). next t a (rule x) g ≡ none) f (gives_none p b a here acts g e)

@@ -14,11 +14,14 @@ use Rattle.minuska.specs.Term.{Term, single, node_count}
 use Rattle.minuska.specs.Word.{encode}
 use Rattle.minuska.specs.Rule.{Table, IsTable, IsConfiguration}
 use Rattle.minuska.specs.Answer.{Outcome, gives, StepResult, stepped, stuck, too_large}
+use Rattle.minuska.specs.Contract.{StepByRuleContract}
 use Rattle.minuska.specs.Claim.{RuleClaim, table_row, configuration_row}
 use Rattle.minuska.specs.Slice.{out_limit, step_answer, step_out}
 use Rattle.minuska.specs.Computed.Step.{next}
-use Rattle.minuska.specs.declared.StepAnswer.{StepAnswer}
-use Rattle.minuska.specs.declared.StepAnswer.TheVariants as S
+use Rattle.minuska.specs.declared.Refusal.{Refusal}
+use Rattle.minuska.specs.declared.Stepped.{Stepped}
+use Rattle.std.specs.Prelude as Std
+use Rattle.std.specs.Prelude.{Result, Ok, Err, Some, None}
 use Rattle.minuska.proofs.Bridge.AcceptedLaw.{term_length}
 use Rattle.minuska.proofs.RefusalLaw.{row_passed}
 use Rattle.minuska.proofs.ReplayLaw.{NextTold, next_told}
@@ -28,13 +31,20 @@ use Rattle.replay.specs.Turns.{Carries, TryContract}
 pub limit_words : (room k : ℕ) → leb k (out_limit room) ≡ true → 2 * k ≤ room
 limit_words room k e = let h = leb-true k (out_limit room) e in omega arith
 
--- by the answer: the successor, and out
-abbrev pub Told : Option Term → ℕ → List ℤ → StepAnswer → Type 0
-Told x room out' S.Stuck = x ≡ none
-Told x room out' (S.Stepped n a k) = (h : Term) × (x ≡ some h) × (leb (node_count h) (out_limit room) ≡ true) × (node_count h ≡ k) × (take (2 * k) out' ≡ encode (single h))
-Told x room out' (S.Refused r) = (h : Term) × (x ≡ some h) × (leb (node_count h) (out_limit room) ≡ false)
+abbrev pub Answer : Type 0
+Answer = Result (Std.Option Stepped) Refusal
 
-pub record Tells (x : Option Term) (room : ℕ) (out out' : List ℤ) (r : StepAnswer) : Type 0 where
+-- the step by one rule, into the first words of out
+pub tried : (ws cs cs' : List ℤ) (n n' room : ℕ) (out front : List ℤ) (r : Answer) → cs' ≡ cs → n' ≡ n → StepByRuleContract ws cs' n' (take room out) front r → TryContract ws cs n room out (front ++ drop room out) r
+tried ws cs cs' n n' room out front r ec en k = record { front = front; steps = rw (ec, en) at k; leaves = refl }
+
+-- by the answer: the successor, and out
+abbrev pub Told : Option Term → ℕ → List ℤ → Answer → Type 0
+Told x room out' (Ok None) = x ≡ none
+Told x room out' (Ok (Some s)) = (h : Term) × (x ≡ some h) × (leb (node_count h) (out_limit room) ≡ true) × (node_count h ≡ s.nodes) × (take (2 * s.nodes) out' ≡ encode (single h))
+Told x room out' (Err r) = (h : Term) × (x ≡ some h) × (leb (node_count h) (out_limit room) ≡ false)
+
+pub record Tells (x : Option Term) (room : ℕ) (out out' : List ℤ) (r : Answer) : Type 0 where
   pub told : Told x room out' r
   pub wide : length out' ≡ length out
   pub kept : drop room out' ≡ drop room out
@@ -78,7 +88,7 @@ module _ (room : ℕ) (out : List ℤ) (fits : room ≤ length out) where
       record { told = (e.0, e.1, lt-leb (node_count e.0) (out_limit room) e.2); wide = ap length unchanged; kept = ap (drop room) unchanged }
 
 -- WHAT A TRIED RULE TELLS, where it carries the action
-pub tried_tells : (ws cs : List ℤ) (t : Table) (g : Term) → IsTable ws t → IsConfiguration cs g → (a n room : ℕ) → Carries t a n → (out out' : List ℤ) (r : StepAnswer) → room ≤ length out
+pub tried_tells : (ws cs : List ℤ) (t : Table) (g : Term) → IsTable ws t → IsConfiguration cs g → (a n room : ℕ) → Carries t a n → (out out' : List ℤ) (r : Answer) → room ≤ length out
     → TryContract ws cs n room out out' r → Tells (next t a n g) room out out' r
 tried_tells ws cs t g p q a n room c out out' r h k =
     let s = k.steps in

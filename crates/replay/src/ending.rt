@@ -2,93 +2,64 @@
 ghost use Rattle.std.specs.Prelude.{◌≡◌, ◌++◌, ℕ, pred, ◌+◌, ◌≤◌, ◌<◌, length, get_or, drop};
 ghost use Rattle.minuska.specs.Slice.{write_zeros};
 ghost use Rattle.minuska.specs.Computed.Step.{order};
-ghost use Rattle.minuska.specs.Bridge.Place.{Indexed};
 ghost use Rattle.replay.specs.Reading.{table_of};
-ghost use Rattle.memory.specs.Layout.{max_room, base, position_of};
+ghost use Rattle.memory.specs.Layout.{base, frame_at, position_of};
 ghost use Rattle.replay.specs.Stack.{chosen};
-ghost use Rattle.replay.specs.Turns.{position_at, Begun};
+ghost use Rattle.replay.specs.Turns.{position_at, Begun, SlicesFit};
 ghost use Rattle.replay.specs.Endings.{restored, FoundWithin, EndContract};
 
-use crate::CountedAnswer;
-use crate::search::Found;
+use crate::search::Search;
 use memory::frame;
-use minuska::{Index, Refusal};
+use minuska::Refusal;
+use std::ops::Range;
 
-// The rule that the frame at `at` tried last.
-fn choice_at(table: &[i64], index: &Index, work: &[i64], at: usize, room: usize) -> u16
-    requires indexed { Indexed table.now index.now }
-    requires room_in_bounds { (at + (room + 2) ≤ length work.now) × Begun (length (order (table_of table.now))) room work.now at }
-    ensures { result ≡ get_or (order (table_of table.now)) (pred (position_of room work.now at)) 0 }
+// The rule that a frame tried last.
+fn choice_at(search: &Search, frame: &[i64]) -> u16
+    requires { (2 ≤ length frame.now) × Begun search.now.rules frame.now }
+    ensures { result ≡ get_or (order (table_of search.now.table.words.now)) (pred (position_of frame.now)) 0 }
 {
-    let next = frame::position(work, at, room);
-    let rule = step::ordered(table, index, next - 1);
-    rule as u16
+    search.table.ordered(frame::position(frame) - 1) as u16
 }
 
-// The rules that led to depth `actions`.
-fn write_choices(
-    table: &[i64],
-    index: &Index,
-    choices: &mut [u16],
-    work: &[i64],
-    room: usize,
-    actions: usize,
-)
-    requires indexed { Indexed table.now index.now }
-    requires actions_in_bounds { (actions ≤ length choices.old) × (base room actions ≤ length work.now) × (room ≤ max_room) }
-    requires by_index { (i : ℕ) → i < actions → Begun (length (order (table_of table.now))) room work.now (base room i) }
-    ensures { choices.new ≡ chosen (order (table_of table.now)) (position_at room work.now) actions ++ drop actions choices.old }
+// The rules that led to the end of the log.
+fn write_choices(search: &Search, choices: &mut [u16], work: &[i64])
+    requires fits { (length search.now.log.now ≤ length choices.old) × (base search.now.room (length search.now.log.now) ≤ length work.now) }
+    requires begun { (i : ℕ) → i < length search.now.log.now → Begun search.now.rules (frame_at search.now.room work.now i) }
+    ensures { choices.new ≡ chosen (order (table_of search.now.table.words.now)) (position_at search.now.room work.now) (length search.now.log.now) ++ drop (length search.now.log.now) choices.old }
 {
-    let mut i = 0;
-    while i < actions {
-        let at = frame::base_at(room, i);
-        choices[i] = choice_at(table, index, work, at, room);
-        i += 1;
+    for i in 0..search.log.len() {
+        choices[i] = choice_at(search, &work[frame::place(search.room, i)]);
     }
 }
 
-// Out gets back what was kept for it at `at`, from word `words` on, and the work area is cleared.
-fn give_back(out: &mut [i64], work: &mut [i64], at: usize, room: usize, words: usize)
-    requires { (at + (room + 2) ≤ length work.old) × (room ≤ length out.old) × (words ≤ room) }
-    ensures out { out.new ≡ restored room words at out.old work.old }
-    ensures work { work.new ≡ write_zeros (at + (room + 2)) work.old }
+// Out gets back what was kept for it in the last frame, from word `words` on, and the work area is cleared.
+fn give_back(out: &mut [i64], work: &mut [i64], last: Range<usize>, room: usize, words: usize)
+    requires { (last.start + (room + 2) ≡ last.end) × (last.end ≤ length work.old) × (room ≤ length out.old) × (words ≤ room) }
+    ensures out { out.new ≡ restored room words last.start out.old work.old }
+    ensures work { work.new ≡ write_zeros last.end work.old }
 {
-    let from = at + words;
-    let to = at + room;
-    words::copy(out, words, &work[from..to]);
-    let end = at + (room + 2);
-    words::clear(&mut work[..end]);
+    words::copy(out, words, &work[last.start + words..last.start + room]);
+    words::clear(&mut work[..last.end]);
 }
 
+// What the search has found, in nodes.
 pub fn conclude(
-    found: Found,
-    table: &[i64],
-    index: &Index,
-    actions: usize,
-    room: usize,
+    search: &Search,
+    found: Result<Option<usize>, Refusal>,
     out: &mut [i64],
     choices: &mut [u16],
     work: &mut [i64],
-) -> CountedAnswer
-    requires indexed { Indexed table.now index.now }
-    requires room_in_bounds { (base room actions + (room + 2) ≤ length work.old) × (room ≤ length out.old) × (room ≤ max_room) × (actions ≤ length choices.old) }
-    requires found_within { FoundWithin found (length (order (table_of table.now))) actions room work.old }
-    ensures { EndContract table.now found actions room out.old choices.old work.old out.new choices.new work.new result }
+) -> Result<Option<usize>, Refusal>
+    requires fits { SlicesFit search.now.room search.now.log.now out.old work.old × (length search.now.log.now ≤ length choices.old) }
+    requires within { FoundWithin found search.now.rules (length search.now.log.now) search.now.room work.old }
+    ensures { EndContract search.now.table.words.now found (length search.now.log.now) search.now.room out.old choices.old work.old out.new choices.new work.new result }
 {
-    let at = frame::base_at(room, actions);
-    match found {
-        Found::Path(words) => {
-            write_choices(table, index, choices, work, room, actions);
-            give_back(out, work, at, room, words);
-            CountedAnswer::Reproduced(words / 2)
-        }
-        Found::Over => {
-            give_back(out, work, at, room, 0);
-            CountedAnswer::Refused(Refusal::OverLimit)
-        }
-        Found::Nothing => {
-            give_back(out, work, at, room, 0);
-            CountedAnswer::NotReproduced
-        }
+    let mut words = 0;
+    if let Ok(Some(made)) = found {
+        write_choices(search, choices, work);
+        words = made;
     }
+    let last = frame::place(search.room, search.log.len());
+    give_back(out, work, last, search.room, words);
+    Ok(found?.map(|words| words / 2))
 }

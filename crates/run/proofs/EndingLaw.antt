@@ -6,7 +6,7 @@ use native.Mathlib.Omega.{arith}
 use lib.IntN.{ℤ, pos}
 use lib.ListN.{length, take, drop, replicate, length-append, length-replicate, length-drop}
 use lib.Seq.{length-take-le, take_at, drop_at, drop-drop}
-use Rattle.minuska.specs.declared.RunAnswer.TheVariants as R
+use Rattle.std.specs.Prelude.{Ok, Err}
 use Rattle.minuska.specs.declared.Refusal.{Refusal}
 use Rattle.minuska.specs.Term.{single}
 use Rattle.minuska.specs.Word.{encode}
@@ -49,21 +49,21 @@ module _ (ws cs : List ℤ) (budget limit : ℕ) (out spare : List ℤ) where
   outcome = run_outcome ws cs budget limit (length out) (length spare)
 
   pub ended : (r : Ended) (out₁ spare₁ out₂ spare₂ : List ℤ) → RunEnds ws cs budget limit out spare out₁ spare₁ r →
-      Finishes (2 * limit) (take (2 * r.nodes) (by_side r.side cs out₁ spare₁)) out₁ spare₁ out₂ spare₂ → RunContract ws cs budget limit out spare out₂ spare₂ r.answer
+      Finishes (2 * limit) (take (2 * r.nodes) (by_side r.side cs out₁ spare₁)) out₁ spare₁ out₂ spare₂ → RunContract ws cs budget limit out spare out₂ spare₂ (Ok r.answer)
   ended r out₁ spare₁ out₂ spare₂ p q =
       let xs = encode (single p.result.last) in
       let l = length-take-le (2 * r.nodes) (by_side r.side cs out₁ spare₁) p.within in
       let m : length xs ≡ 2 * r.nodes = ap length (sym p.last) ∙ l in
       let f = p.fits in
-      run_contract ws cs budget limit out spare out₂ spare₂ r.answer (p.answer ∙ ap run_answer (sym p.is))
+      run_contract ws cs budget limit out spare out₂ spare₂ (Ok r.answer) (p.answer ∙ ap run_answer (sym p.is))
       (q.leaves ∙ ap (λ (y : List ℤ). write_filled (2 * limit) y out₁) p.last ∙ same_filled (2 * limit) xs out out₁ (omega arith) p.out_behind ∙
       sym (run_out_gives out limit p.result) ∙ ap (λ (o : Outcome RunResult). run_out limit o out) (sym p.is))
       (q.leaves_spare ∙ same_zeros (2 * limit) spare spare₁ p.spare_behind ∙
       sym (run_spare_gives spare limit p.result) ∙ ap (λ (o : Outcome RunResult). run_spare limit o spare) (sym p.is))
 
-  pub turned_back_lem : (e : Refusal) → run_outcome ws cs budget limit (length out) (length spare) ≡ refused e → RunContract ws cs budget limit out spare out spare (R.Refused e)
+  pub turned_back_lem : (e : Refusal) → run_outcome ws cs budget limit (length out) (length spare) ≡ refused e → RunContract ws cs budget limit out spare out spare (Err e)
   unfolding run_answer
   turned_back_lem e p =
-      run_contract ws cs budget limit out spare out spare (R.Refused e) (ap run_answer (sym p))
+      run_contract ws cs budget limit out spare out spare (Err e) (ap run_answer (sym p))
       (sym (run_out_refused out limit e) ∙ ap (λ (o : Outcome RunResult). run_out limit o out) (sym p))
       (sym (run_spare_refused spare limit e) ∙ ap (λ (o : Outcome RunResult). run_spare limit o spare) (sym p))

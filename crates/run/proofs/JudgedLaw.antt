@@ -14,7 +14,9 @@ use Rattle.minuska.specs.Slice.{step_answer, ended_as, run_answer}
 use Rattle.minuska.specs.Computed.Step.{step}
 use Rattle.minuska.specs.Computed.Run.{ended_at, one_more, last_turn, turn, run}
 use Rattle.minuska.proofs.ShutLaw.{run_zero_is, run_suc_is}
-use Rattle.run.specs.declared.Progress.TheVariants.{On, End}
+use Rattle.std.specs.declared.ops.ControlFlow.TheVariants.{Continue, Break}
+use Rattle.std.specs.Prelude.{Result, Ok}
+use Rattle.minuska.specs.declared.Refusal.{Refusal}
 use Rattle.run.specs.Sides.{judged}
 
 -- a run with k steps before it
@@ -27,9 +29,6 @@ after_none x = rw (zero-add x.steps)
 after_one : (k : ℕ) (x : RunResult) → after k (one_more x) ≡ after (k + 1) x
 after_one k x = let e : k + suc x.steps ≡ k + 1 + x.steps = omega arith in rw e
 
-not_end : (n : ℕ) (r : RunAnswer) → On n ≡ End r → ⊥
-not_end n r e = let z : ◌≡◌ {A = ℕ} 0 1 = cc in omega arith
-
 -- A successor, where the budget is not used up.
 pub record Succeeds (y : StepResult) (nodes k budget : ℕ) : Type 0 where
   pub rule : ℕ
@@ -40,16 +39,16 @@ pub record Succeeds (y : StepResult) (nodes k budget : ℕ) : Type 0 where
   pub early : k < budget
 
 module _ (k budget : ℕ) where
-  pub succeeds : (y : StepResult) (nodes : ℕ) → judged (step_answer (gives y)) k budget ≡ On nodes → Succeeds y nodes k budget
+  pub succeeds : (y : StepResult) (nodes : ℕ) → judged (step_answer (gives y)) k budget ≡ Continue nodes → Succeeds y nodes k budget
   unfolding step_answer
   succeeds y nodes j = by y (ltb k budget) refl j
     where
-      by : (y : StepResult) (b : Bool) → ltb k budget ≡ b → judged (step_answer (gives y)) k budget ≡ On nodes → Succeeds y nodes k budget
+      by : (y : StepResult) (b : Bool) → ltb k budget ≡ b → judged (step_answer (gives y)) k budget ≡ Continue nodes → Succeeds y nodes k budget
       by (stepped n a h) true l j = let i = rw l at j in record { rule = n; action = a; successor = h; is = refl; counts = (cc); early = ltb-true k budget l }
-      by (stepped n a h) false l j = absurd (not_end nodes _ (sym (rw l at j)))
-      by stuck b l j = absurd (not_end nodes _ (sym j))
-      by too_large true l j = absurd (not_end nodes _ (sym (rw l at j)))
-      by too_large false l j = absurd (not_end nodes _ (sym (rw l at j)))
+      by (stepped n a h) false l j = let i = rw l at j in cc
+      by stuck b l j = cc
+      by too_large true l j = let i = rw l at j in cc
+      by too_large false l j = let i = rw l at j in cc
 
   module _ (t : Table) (limit : ℕ) (g : Term) where
     abbrev rest : RunResult
@@ -67,18 +66,21 @@ module _ (k budget : ℕ) where
 
     -- THE END
     abbrev EndsAs : RunAnswer → Type 0
-    EndsAs answer = (answer ≡ run_answer (gives (after k (run t limit (budget - k) g)))) × ((run t limit (budget - k) g).last ≡ g)
+    EndsAs answer = (Ok answer ≡ run_answer (gives (after k (run t limit (budget - k) g)))) × ((run t limit (budget - k) g).last ≡ g)
+
+    abbrev ok : RunAnswer → Result RunAnswer Refusal
+    ok x = Ok x
 
     ends_at : (e : Ending) (answer : RunAnswer) → rest ≡ ended_at g e → ended_as e k ≡ answer → EndsAs answer
     unfolding run_answer
-    ends_at e answer q a = (sym a ∙ rw (q, add-zero k), rw q)
+    ends_at e answer q a = (ap ok (sym a) ∙ rw (q, add-zero k), rw q)
 
-    pub ends : (y : StepResult) (answer : RunAnswer) → step t limit g ≡ y → judged (step_answer (gives y)) k budget ≡ End answer → EndsAs answer
+    pub ends : (y : StepResult) (answer : RunAnswer) → step t limit g ≡ y → judged (step_answer (gives y)) k budget ≡ Break answer → EndsAs answer
     unfolding step_answer
     ends y answer e j = by y e (ltb k budget) refl j
       where
-        by : (y : StepResult) → step t limit g ≡ y → (b : Bool) → ltb k budget ≡ b → judged (step_answer (gives y)) k budget ≡ End answer → EndsAs answer
-        by (stepped n a h) e true l j = absurd (not_end (node_count h) answer (rw l at j))
+        by : (y : StepResult) → step t limit g ≡ y → (b : Bool) → ltb k budget ≡ b → judged (step_answer (gives y)) k budget ≡ Break answer → EndsAs answer
+        by (stepped n a h) e true l j = let i = rw l at j in cc
         by (stepped n a h) e false l j = ends_at ends_spent answer (is_over (ltb-false k budget l) ∙ rw e) (let i = rw l at j in cc)
         by stuck e true l j = ends_at ends_stuck answer (goes_on (ltb-true k budget l) ∙ rw e) (cc)
         by stuck e false l j = ends_at ends_stuck answer (is_over (ltb-false k budget l) ∙ rw e) (cc)

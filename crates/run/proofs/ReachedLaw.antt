@@ -7,7 +7,9 @@ use native.Mathlib.Omega.{arith}
 use lib.IntN.{ℤ}
 use lib.ListN.{length, take, drop}
 use lib.Seq.{take-take, take_at, take_all}
-use Rattle.minuska.specs.declared.StepAnswer.{StepAnswer}
+use Rattle.std.specs.Prelude.{Option as StdOption, Result}
+use Rattle.minuska.specs.declared.Refusal.{Refusal}
+use Rattle.minuska.specs.declared.Stepped.{Stepped}
 use Rattle.minuska.specs.declared.RunAnswer.{RunAnswer}
 use Rattle.minuska.specs.Term.{Term, single, node_count}
 use Rattle.minuska.specs.Word.{encode}
@@ -24,7 +26,7 @@ use Rattle.minuska.proofs.ShutLaw.{step_outcome_is, step_out_stepped}
 use Rattle.minuska.proofs.Bridge.AcceptedLaw.{term_length, configuration_length}
 use Rattle.run.specs.declared.Side.{Side}
 use Rattle.run.specs.declared.Side.TheVariants.{Initial}
-use Rattle.run.specs.declared.Progress.TheVariants.{On, End}
+use Rattle.std.specs.declared.ops.ControlFlow.TheVariants.{Continue, Break}
 use Rattle.run.specs.Sides.{by_side, other, StartsWith, StepsAcross, judged}
 use Rattle.run.specs.Ending.{RunEnds}
 use Rattle.run.proofs.SidesLaw.{next_stands, current_keeps, both_behind, either}
@@ -88,12 +90,12 @@ module _ (ws cs : List ℤ) (budget limit : ℕ) (out₀ spare₀ : List ℤ) wh
         step_outcome_is ws current (2 * limit) ∙ on_words_lem ws current s.table s.term s.is_table s.is (λ t g. gives (step t (out_limit (2 * limit)) g)) ∙
         rw (limit_of_words limit s.bounded)
 
-    module _ (out' spare' : List ℤ) (r : StepAnswer) (t : StepsAcross ws cs side nodes (2 * limit) out spare out' spare' r) where
+    module _ (out' spare' : List ℤ) (r : Result (StdOption Stepped) Refusal) (t : StepsAcross ws cs side nodes (2 * limit) out spare out' spare' r) where
       answers : r ≡ step_answer (gives (step s.table limit s.term))
       answers = t.steps.answer ∙ ap step_answer steps
 
       -- ONE STEP MORE
-      pub reached_more : (n : ℕ) → judged r k budget ≡ On n → length out' ≡ length out → length spare' ≡ length spare → 2 * limit ≤ length out₀ → 2 * limit ≤ length spare₀ →
+      pub reached_more : (n : ℕ) → judged r k budget ≡ Continue n → length out' ≡ length out → length spare' ≡ length spare → 2 * limit ≤ length out₀ → 2 * limit ≤ length spare₀ →
           RunReached (other side) n (k + 1) out' spare'
       reached_more n j o p ro rs =
           let m = succeeds k budget (step s.table limit s.term) n (rw answers at j) in
@@ -128,7 +130,7 @@ module _ (ws cs : List ℤ) (budget limit : ℕ) (out₀ spare₀ : List ℤ) wh
           }
 
       -- THE END
-      pub reached_end : (answer : RunAnswer) → judged r k budget ≡ End answer → RunEnds ws cs budget limit out₀ spare₀ out' spare' (record { answer = answer; side = side; nodes = nodes })
+      pub reached_end : (answer : RunAnswer) → judged r k budget ≡ Break answer → RunEnds ws cs budget limit out₀ spare₀ out' spare' (record { answer = answer; side = side; nodes = nodes })
       reached_end answer j =
           let e = ends k budget s.table limit s.term (step s.table limit s.term) answer refl (rw answers at j) in
           let c = current_keeps side cs out spare out' spare' t.keeps in

@@ -6,7 +6,7 @@ use lib.Dec.{ltb}
 use lib.IntN.{ℤ}
 use lib.ListN.{length}
 use borrow.Author.Tests.{ltb-false}
-use Rattle.minuska.specs.declared.Check.TheVariants.{Refused}
+use Rattle.std.specs.Prelude.{Err}
 use Rattle.minuska.specs.declared.Refusal.{Refusal}
 use Rattle.minuska.specs.Term.{Term}
 use Rattle.minuska.specs.Rule.{Table, max_steps, IsTable, IsConfiguration}
@@ -27,11 +27,11 @@ roomy nodes budget limit out spare a =
 
 module _ (ws cs : List ℤ) (budget limit out spare : ℕ) where
   -- refusals 1 and 2
-  pub early_refused : (e : Refusal) → or_second (table_check ws) (configuration_check cs) ≡ Refused e → run_outcome ws cs budget limit out spare ≡ refused e
+  pub early_refused : (e : Refusal) → or_second (table_check ws) (configuration_check cs) ≡ Err e → run_outcome ws cs budget limit out spare ≡ refused e
   early_refused e h = run_outcome_is ws cs budget limit out spare ∙ refused_first ws cs _ e h
 
   module _ (t : Table) (g : Term) (p : IsTable ws t) (q : IsConfiguration cs g) where
-    pub late_refused : (e : Refusal) → size_check budget max_steps (length cs / 2) limit (run_short limit out spare) ≡ Refused e → run_outcome ws cs budget limit out spare ≡ refused e
+    pub late_refused : (e : Refusal) → size_check budget max_steps (length cs / 2) limit (run_short limit out spare) ≡ Err e → run_outcome ws cs budget limit out spare ≡ refused e
     late_refused e r =
         run_outcome_is ws cs budget limit out spare ∙ sizes_refuse ws cs t g p q (λ u h. run u limit budget h) budget max_steps limit (run_short limit out spare) e r
 

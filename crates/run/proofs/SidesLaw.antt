@@ -5,7 +5,9 @@ use Prim.Native.Nat.{ℕ, ◌*◌}
 use lib.IntN.{ℤ}
 use lib.ListN.{length, take, drop}
 use lib.Seq.{take_at, drop_at}
-use Rattle.minuska.specs.declared.StepAnswer.{StepAnswer}
+use Rattle.std.specs.Prelude.{Option as StdOption, Result}
+use Rattle.minuska.specs.declared.Refusal.{Refusal}
+use Rattle.minuska.specs.declared.Stepped.{Stepped}
 use Rattle.minuska.specs.Answer.{Outcome, StepResult}
 use Rattle.minuska.specs.Slice.{step_answer, step_out}
 use Rattle.minuska.specs.Contract.{StepContract}
@@ -15,7 +17,7 @@ use Rattle.run.specs.declared.Side.TheVariants.{Initial, Out, Spare}
 use Rattle.run.specs.Sides.{by_side, other, StepsInto, StepsAcross}
 
 -- what a step says of the part of a slice that it was lent, said of the slice
-pub steps_into : (ws cs : List ℤ) (words : ℕ) (to part : List ℤ) (r : StepAnswer) → length (take words to) ≡ words → StepContract ws cs (take words to) part r → length part ≡ words →
+pub steps_into : (ws cs : List ℤ) (words : ℕ) (to part : List ℤ) (r : Result (StdOption Stepped) Refusal) → length (take words to) ≡ words → StepContract ws cs (take words to) part r → length part ≡ words →
     StepsInto (step_outcome ws cs words) words to (part ++ drop words to) r
 steps_into ws cs words to part r l c m =
     let e : c.outcome ≡ step_outcome ws cs words = c.is ∙ ap (step_outcome ws cs) l in
@@ -30,7 +32,7 @@ module _ (cs out spare : List ℤ) (side : Side) where
   pub at_side : (P : List ℤ → Type 0) (s : Side) → side ≡ s → P (by_side side cs out spare) → P (by_side s cs out spare)
   at_side P s e h = rw e at h
 
-  module _ (ws out' spare' : List ℤ) (nodes words : ℕ) (r : StepAnswer) where
+  module _ (ws out' spare' : List ℤ) (nodes words : ℕ) (r : Result (StdOption Stepped) Refusal) where
     pub across_at : (s : Side) → side ≡ s →
         StepsInto (step_outcome ws (take (2 * nodes) (by_side s cs out spare)) words) words (by_side s out spare out) (by_side s out' spare' out') r →
         by_side s spare' out' spare' ≡ by_side s spare out spare → StepsAcross ws cs side nodes words out spare out' spare' r

@@ -1,5 +1,5 @@
 -- How a run's steps end, and what is left to be done then.
-use Rattle.std.specs.Prelude.{◌≡◌, List, ℕ, ◌*◌, ◌≤◌, ℤ, length, take, drop}
+use Rattle.std.specs.Prelude.{◌≡◌, List, ℕ, ◌*◌, ◌≤◌, ℤ, length, take, drop, Ok}
 use Rattle.minuska.specs.Term.{single}
 use Rattle.minuska.specs.Word.{encode}
 use Rattle.minuska.specs.Answer.{gives, RunResult}
@@ -12,7 +12,7 @@ use Rattle.run.specs.Sides.{by_side}
 pub record RunEnds (table config : List ℤ) (budget limit : ℕ) (out spare out' spare' : List ℤ) (r : Ended) : Type 0 where
   pub result : RunResult
   pub is : run_outcome table config budget limit (length out) (length spare) ≡ gives result
-  pub answer : r.answer ≡ run_answer (gives result)
+  pub answer : Ok r.answer ≡ run_answer (gives result)
   pub last : take (2 * r.nodes) (by_side r.side config out' spare') ≡ encode (single result.last)
   pub within : 2 * r.nodes ≤ length (by_side r.side config out' spare')
   pub fits : r.nodes ≤ limit

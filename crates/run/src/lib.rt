@@ -1,7 +1,7 @@
 // The run (document 01): the step repeated, its count held against a budget. Two lent slices take turns: each step reads one and writes the other.
 #![tactic(auto)]
 
-ghost use Rattle.std.specs.Prelude.{◌≡◌, ◌*◌, ◌/◌, ◌≤◌, length, take};
+ghost use Rattle.std.specs.Prelude.{◌≡◌, ◌*◌, ◌/◌, ◌≤◌, length, take, Ok};
 ghost use Rattle.minuska.specs.Contract.{RunContract};
 ghost use Rattle.minuska.specs.Slice.{write};
 ghost use Rattle.minuska.specs.Computed.Outcome.{step_outcome, run_short};
@@ -11,7 +11,8 @@ ghost use Rattle.run.specs.Allowed.{Allowed};
 ghost use Rattle.run.specs.Ending.{RunEnds, Finishes};
 
 use minuska::limits::MAX_STEPS;
-use minuska::{Check, INDEX_LEN, Index, RunAnswer, StepAnswer};
+use minuska::{INDEX_LEN, Index, Refusal, RunAnswer, Stepped};
+use std::ops::ControlFlow;
 
 // Where the current configuration stands: as it was given, in out, or in spare.
 #[derive(Clone, Copy)]
@@ -19,13 +20,6 @@ enum Side {
     Initial,
     Out,
     Spare,
-}
-
-// What a step's answer comes to: on, with a successor of so many nodes, or an end.
-#[derive(Clone, Copy)]
-enum Progress {
-    On(usize),
-    End(RunAnswer),
 }
 
 // The answer, and where the last configuration stands.
@@ -55,7 +49,7 @@ fn step_into<'a>(
     nodes: usize,
     to: &mut [i64],
     words: usize,
-) -> StepAnswer
+) -> Result<Option<Stepped>, Refusal>
     requires { Indexed table.now index.now × StartsWith from.now nodes × (words ≤ length to.old) }
     ensures { StepsInto (step_outcome table.now (take (2 * nodes) from.now) words) words to.old to.new result }
 {
@@ -73,7 +67,7 @@ fn step_across<'a>(
     words: usize,
     out: &mut [i64],
     spare: &mut [i64],
-) -> StepAnswer
+) -> Result<Option<Stepped>, Refusal>
     requires { Indexed table.now index.now × StartsWith (by_side side configuration.now out.old spare.old) nodes × (words ≤ length out.old) × (words ≤ length spare.old) }
     ensures { StepsAcross table.now configuration.now side nodes words out.old spare.old out.new spare.new result }
 {
@@ -84,28 +78,20 @@ fn step_across<'a>(
     }
 }
 
-// What a step's answer comes to after k steps: at the budget's end a rule that applies, whatever its successor's size, is spent.
-fn judge(answer: StepAnswer, k: usize, budget: usize) -> Progress
+// What a step's answer comes to after k steps: on, with a successor of so many nodes, or the end. At the budget's end a rule that applies, whatever its
+// successor's size, is spent.
+fn judge(
+    answer: Result<Option<Stepped>, Refusal>,
+    k: usize,
+    budget: usize,
+) -> ControlFlow<RunAnswer, usize>
     ensures { result ≡ judged answer k budget }
 {
     match answer {
-        StepAnswer::Stepped {
-            rule: _,
-            action: _,
-            nodes,
-        } => {
-            if budget <= k {
-                return Progress::End(RunAnswer::Spent(k));
-            }
-            Progress::On(nodes)
-        }
-        StepAnswer::Stuck => Progress::End(RunAnswer::Stuck(k)),
-        StepAnswer::Refused(_) => {
-            if k < budget {
-                return Progress::End(RunAnswer::Over(k));
-            }
-            Progress::End(RunAnswer::Spent(k))
-        }
+        Ok(Some(stepped)) if k < budget => ControlFlow::Continue(stepped.nodes),
+        Ok(None) => ControlFlow::Break(RunAnswer::Stuck(k)),
+        Err(_) if k < budget => ControlFlow::Break(RunAnswer::Over(k)),
+        _ => ControlFlow::Break(RunAnswer::Spent(k)),
     }
 }
 
@@ -125,17 +111,14 @@ fn advance<'a>(
     let words = 2 * limit;
     let mut side = Side::Initial;
     let mut nodes = configuration.len() / 2;
-    let mut k = 0;
-    loop {
+    for k in 0..=budget {
         let answer = step_across(table, index, configuration, side, nodes, words, out, spare);
-        let progress = judge(answer, k, budget);
-        match progress {
-            Progress::On(made) => {
+        match judge(answer, k, budget) {
+            ControlFlow::Continue(made) => {
                 side = other_side(side);
                 nodes = made;
-                k += 1;
             }
-            Progress::End(answer) => {
+            ControlFlow::Break(answer) => {
                 return Ended {
                     answer,
                     side,
@@ -144,6 +127,7 @@ fn advance<'a>(
             }
         }
     }
+    unreachable!()
 }
 
 // The last configuration is brought to the start of out, if it does not stand there.
@@ -181,10 +165,7 @@ fn finish(
 fn run_short(limit: usize, out: usize, spare: usize) -> bool
     ensures { result ≡ run_short limit out spare }
 {
-    if sizes::lacks_nodes(out, limit) {
-        return true;
-    }
-    sizes::lacks_nodes(spare, limit)
+    sizes::lacks_nodes(out, limit) || sizes::lacks_nodes(spare, limit)
 }
 
 // The run of checked words, where nothing is refused. A function on checked words, for crates above.
@@ -198,7 +179,7 @@ pub fn run_accepted<'a>(
     spare: &mut [i64],
 ) -> RunAnswer
     requires { Indexed table.now index.now × Accepted configuration.now × Allowed (length configuration.now / 2) budget limit (length out.old) (length spare.old) }
-    ensures { RunContract table.now configuration.now budget limit out.old spare.old out.new spare.new result }
+    ensures { RunContract table.now configuration.now budget limit out.old spare.old out.new spare.new (Ok result) }
 {
     let ended = advance(table, index, configuration, budget, limit, out, spare);
     let words = 2 * limit;
@@ -215,17 +196,13 @@ pub fn run<'a>(
     limit: usize,
     out: &mut [i64],
     spare: &mut [i64],
-) -> RunAnswer
+) -> Result<RunAnswer, Refusal>
     ensures { RunContract table.now configuration.now budget limit out.old spare.old out.new spare.new result }
 {
     let mut index = [0u16; INDEX_LEN];
-    if let Check::Refused(number) = step::accept(table, configuration, &mut index) {
-        return RunAnswer::Refused(number);
-    }
+    step::accept(table, configuration, &mut index)?;
     let nodes = configuration.len() / 2;
     let short = run_short(limit, out.len(), spare.len());
-    if let Check::Refused(number) = sizes::check_sizes(budget, MAX_STEPS, nodes, limit, short) {
-        return RunAnswer::Refused(number);
-    }
-    run_accepted(table, &index, configuration, budget, limit, out, spare)
+    sizes::check_sizes(budget, MAX_STEPS, nodes, limit, short)?;
+    Ok(run_accepted(table, &index, configuration, budget, limit, out, spare))
 }

@@ -3,12 +3,14 @@ use mathlib.Core.Path.{◌≡◌, refl, sym, ◌∙◌, ap, ap₂}
 use mathlib.Core.Bool.{Bool, true, false, ◌&&◌, cond, and-false}
 use mathlib.Core.Option.{Option, none, some, some-injective}
 use mathlib.Core.List.{List, [], ◌∷◌, ◌++◌, append_assoc, append-nil}
-use Prim.Native.Nat.{ℕ, zero, suc, ◌+◌, ◌-◌, ◌*◌, ◌≤◌, ◌<◌}
+use Prim.Native.Nat.{ℕ, zero, suc, ◌+◌, ◌-◌, ◌≤◌, ◌<◌}
 use native.Mathlib.Omega.{arith}
 use lib.Dec.{leb}
 use lib.IntN.{ℤ, pos}
-use lib.ListN.{length, take, drop, get_or, length-append, length-drop, take-append-drop, drop_of_length-le}
-use lib.Seq.{length-take-le, take_at, drop_at, drop-drop, sets, sets-eq, length-sets}
+use lib.ListN.{length, take, drop, get_or, set, length-append, length-drop, length-set, take-append-drop, drop_of_length-le}
+use lib.Seq.{length-take-le, take_at, drop-drop}
+use Rattle.std.proofs.lemmas.List.{take_more_set, drop-set-lt}
+use Rattle.std.specs.Prelude.{Some, None}
 use borrow.Author.Tests.{le-leb, lt-leb}
 use Rattle.minuska.specs.Basics.{◌>>=◌, provided}
 use Rattle.minuska.specs.Term.{single}
@@ -19,7 +21,7 @@ use Rattle.minuska.specs.declared.Refusal.TheVariants.{BadTable}
 use Rattle.minuska.specs.Slice.{write}
 use Rattle.minuska.specs.Computed.Read.{number_below, is_empty, read_rule, read_rules, read_table}
 use Rattle.minuska.specs.Computed.Outcome.{checked, table_check}
-use Rattle.minuska.specs.Bridge.Place.{Stands, left_words, right_words, conditions_words, left_from, key_of, root_key, per_rule, index_length, rule_places, places_from, places, Indexed}
+use Rattle.minuska.specs.Bridge.Place.{Stands, left_words, right_words, conditions_words, left_from, key_of, root_key, rule_places, places_from, places, Indexed}
 use Rattle.minuska.proofs.Tests.{came, provided_some, and_right, true_of}
 use Rattle.minuska.proofs.Good as G
 use Rattle.minuska.proofs.Good.{good}
@@ -27,11 +29,14 @@ use Rattle.minuska.proofs.TableLaw.{rule_read, read_table_iff}
 use Rattle.minuska.proofs.Bridge.PlaceLaw.{stands_of, stands_head, stands_word}
 use Rattle.minuska.proofs.Bridge.IndexLaw.{left_stands_lem}
 use Rattle.minuska.proofs.Bridge.SizeLaw.{sizes_few}
-use Rattle.table.specs.Number.{natural_of}
+use Rattle.minuska.specs.declared.Row.{Row}
+use Rattle.table.specs.declared.rule.Parts.{Parts}
+use Rattle.table.specs.Number.{answered}
 use Rattle.table.specs.Rule.{RuleAt}
 use Rattle.table.specs.Index.{places_then, places_read, places_counted, places_found, row_of, RowFits, IndexTableContract}
 use Rattle.table.proofs.BasicLaw.{none_after, never}
-use Rattle.table.proofs.NumberLaw.{below_not, below_yes}
+use Rattle.table.proofs.NumberLaw.{number_is}
+use Rattle.table.proofs.PartLaw.{answered_some, answered_none}
 
 abbrev bad : Result (Unit {0}) Refusal
 bad = Err BadTable
@@ -51,7 +56,7 @@ places_read_lem (suc k) at ws p e =
     let b = came (read_rules k a.0.1) (more_then r) p a.2 in
     let i = at + length (rule_words r) in
     ap (λ (o : Option (Rule × List ℤ)). places_then at o (λ i xs. places_read k i xs)) a.1 ∙
-    (ap (λ (xs : List ℕ). rule_places at r ++ xs) (places_read_lem k i a.0.1 b.0 b.1) ∙
+    (ap (λ (xs : List Row). rule_places at r ∷ xs) (places_read_lem k i a.0.1 b.0 b.1) ∙
     ap (λ (q : Table × List ℤ). places_from at q.0) (some-injective (r ∷ b.0.0, b.0.1) p b.2))
 
 abbrev table_then : List ℤ → Table × List ℤ → Option Table
@@ -68,20 +73,20 @@ places_found_lem (n ∷ ws) t e =
     ap (λ (c : Bool). cond c (places_counted (number_below 257 n) ws) []) (true_of l (and_right (is_empty b.0.1) l w.0)) ∙
     (ap (λ (o : Option ℕ). places_counted o ws) a.1 ∙ (places_read_lem a.0 1 ws b.0 b.1 ∙ ap places w.1))
 
-pub places_length : (at : ℕ) (t : Table) → length (places_from at t) ≡ per_rule * length t
+pub places_length : (at : ℕ) (t : Table) → length (places_from at t) ≡ length t
 places_length at [] = refl
 places_length at (r ∷ t) = let e = places_length (at + length (rule_words r)) t in omega arith
 
 -- ---- the answer and the index afterwards are all that the contract asks
-pub index_contract : (ws : List ℤ) (old index : List ℕ) (r : Result (Unit {0}) Refusal) → r ≡ table_check ws → index ≡ write (places_found ws) old → IndexTableContract ws old index r
+pub index_contract : (ws : List ℤ) (old index : List Row) (r : Result (Unit {0}) Refusal) → r ≡ table_check ws → index ≡ write (places_found ws) old → IndexTableContract ws old index r
 unfolding table_check
 index_contract ws old index r e f = record { answer = e; leaves = f; indexed = λ g. pick (read_table ws) refl (sym g ∙ e) }
   where
     pick : (o : Option Table) → read_table ws ≡ o → Ok tt ≡ checked BadTable o → Indexed ws index
     pick none q g = absurd (never (cc))
     pick (some t) q g =
-        let p : index ≡ write (places t) old = f ∙ ap (λ (xs : List ℕ). write xs old) (places_found_lem ws t q) in
-        record { table = t; is = (read_table_iff ws t).0 q; indexed = ap (take (per_rule * length t)) p ∙ take_at (places t) (drop (length (places t)) old) (per_rule * length t) (places_length 1 t) }
+        let p : index ≡ write (places t) old = f ∙ ap (λ (xs : List Row). write xs old) (places_found_lem ws t q) in
+        record { table = t; is = (read_table_iff ws t).0 q; indexed = ap (take (length t)) p ∙ take_at (places t) (drop (length (places t)) old) (length t) (places_length 1 t) }
 
 -- ---- the table's first word
 abbrev rest_check : Option (Table × List ℤ) → Result (Unit {0}) Refusal
@@ -89,20 +94,20 @@ rest_check none = bad
 rest_check (some p) = cond (is_empty p.1) (Ok tt) bad
 
 -- the loop: rule number `rule` is to be read at a place
-pub record Reached (ws : List ℤ) (old index : List ℕ) (count rule at : ℕ) : Type 0 where
+pub record Reached (ws : List ℤ) (old index : List Row) (count rule at : ℕ) : Type 0 where
   pub check : table_check ws ≡ rest_check (read_rules (count - rule) (drop at ws))
-  pub found : places_found ws ≡ take (per_rule * rule) index ++ places_read (count - rule) at (drop at ws)
-  pub kept : drop (per_rule * rule) index ≡ drop (per_rule * rule) old
-  pub long : index_length ≤ length index
+  pub found : places_found ws ≡ take rule index ++ places_read (count - rule) at (drop at ws)
+  pub kept : drop rule index ≡ drop rule old
+  pub long : length index ≡ 256
   pub few : count ≤ 256
   pub below : rule ≤ count
   pub short : length ws ≤ 65536
 
 -- ---- words that are no table before any rule is read
-module _ (ws : List ℤ) (old : List ℕ) where
+module _ (ws : List ℤ) (old : List Row) where
   unread : (read_table ws ≡ none) × (places_found ws ≡ []) → IndexTableContract ws old old bad
   unfolding table_check
-  unread h = index_contract ws old old bad (sym (ap (checked BadTable) h.0)) (sym (ap (λ (xs : List ℕ). write xs old) h.1))
+  unread h = index_contract ws old old bad (sym (ap (checked BadTable) h.0)) (sym (ap (λ (xs : List Row). write xs old) h.1))
 
 no_words : (ws : List ℤ) → length ws ≡ 0 → (read_table ws ≡ none) × (places_found ws ≡ [])
 unfolding read_table places_found
@@ -119,16 +124,16 @@ long_words (n ∷ ws) h =
       ap (λ (b : Bool). cond b (places_counted (number_below 257 n) ws) []) l,
     )
 
-many_rules : (ws : List ℤ) → 256 < natural_of (get_or ws 0 (pos 0)) → (read_table ws ≡ none) × (places_found ws ≡ [])
+many_rules : (ws : List ℤ) → None ≡ answered (number_below 257 (get_or ws 0 (pos 0))) → (read_table ws ≡ none) × (places_found ws ≡ [])
 unfolding read_table places_found
 many_rules [] h = (refl, refl)
 many_rules (n ∷ ws) h =
-    let e = below_not 257 n h in (
+    let e = answered_none (number_below 257 n) h in (
       ap (λ (o : Option ℕ). o >>= λ k. read_rules k ws >>= table_then ws) e,
       ap (λ (o : Option ℕ). cond (leb (suc (length ws)) 65536) (places_counted o ws) []) e ∙ same (leb (suc (length ws)) 65536),
     )
   where
-    same : (b : Bool) → ◌≡◌ {A = List ℕ} (cond b [] []) []
+    same : (b : Bool) → ◌≡◌ {A = List Row} (cond b [] []) []
     same true = refl
     same false = refl
 
@@ -141,14 +146,14 @@ rest_is l (some p) e = ap (λ (b : Bool). checked BadTable (provided (is_empty p
     at true = refl
     at false = refl
 
-counted : (ws : List ℤ) → 0 < length ws → length ws ≤ 65536 → natural_of (get_or ws 0 (pos 0)) ≤ 256 →
-    (table_check ws ≡ rest_check (read_rules (natural_of (get_or ws 0 (pos 0))) (drop 1 ws))) × (places_found ws ≡ places_read (natural_of (get_or ws 0 (pos 0))) 1 (drop 1 ws))
+counted : (ws : List ℤ) (count : ℕ) → 0 < length ws → length ws ≤ 65536 → Some count ≡ answered (number_below 257 (get_or ws 0 (pos 0))) →
+    (table_check ws ≡ rest_check (read_rules count (drop 1 ws))) × (places_found ws ≡ places_read count 1 (drop 1 ws))
 unfolding table_check read_table places_found
-counted [] h l c = absurd (let f : ⊥ = omega arith in f)
-counted (n ∷ ws) h l c =
-    let k = below_yes 257 n (omega arith) (omega arith) in
+counted [] count h l c = absurd (let f : ⊥ = omega arith in f)
+counted (n ∷ ws) count h l c =
+    let k = answered_some count (number_below 257 n) c in
     let b = le-leb (suc (length ws)) 65536 l in (
-      ap (λ (o : Option ℕ). checked BadTable (o >>= λ k. read_rules k ws >>= table_then ws)) k ∙ rest_is (leb (suc (length ws)) 65536) (read_rules (natural_of n) ws) b,
+      ap (λ (o : Option ℕ). checked BadTable (o >>= λ k. read_rules k ws >>= table_then ws)) k ∙ rest_is (leb (suc (length ws)) 65536) (read_rules count ws) b,
       ap (λ (c : Bool). cond c (places_counted (number_below 257 n) ws) []) b ∙ ap (λ (o : Option ℕ). places_counted o ws) k,
     )
 
@@ -157,11 +162,11 @@ more_is : (r : Rule) (o : Option (Table × List ℤ)) → rest_check (o >>= more
 more_is r none = refl
 more_is r (some p) = refl
 
-module _ (ws : List ℤ) (at right conditions end fixed leaves : ℕ) (p : RuleAt ws at right conditions end fixed leaves) where
+module _ (ws : List ℤ) (at : ℕ) (parts : Parts) (p : RuleAt ws at parts) where
   abbrev r : Rule
   r = p.rule
 
-  rule_length : at + length (rule_words r) ≡ end
+  rule_length : at + length (rule_words r) ≡ parts.end
   rule_length =
       let a = left_words r in
       let b = right_words r in
@@ -171,30 +176,27 @@ module _ (ws : List ℤ) (at right conditions end fixed leaves : ℕ) (p : RuleA
       let m = length-append b c in
       omega arith
 
-  read_words : rule_words r ++ drop end ws ≡ drop at ws
-  read_words = (rule_read (drop at ws) (r, drop end ws) p.read).1
+  read_words : rule_words r ++ drop parts.end ws ≡ drop at ws
+  read_words = (rule_read (drop at ws) (r, drop parts.end ws) p.read).1
 
   okay : G.Good r
-  okay = good r (rule_read (drop at ws) (r, drop end ws) p.read).0
+  okay = good r (rule_read (drop at ws) (r, drop parts.end ws) p.read).0
 
   rule_stands : Stands ws at (rule_words r)
   rule_stands =
       let n = ap length read_words in
-      let m = length-append (rule_words r) (drop end ws) in
+      let m = length-append (rule_words r) (drop parts.end ws) in
       let k = length-drop at ws in
-      stands_of (rule_words r) (drop end ws) (sym read_words) (omega arith)
-
-  action_word : natural_of (get_or ws at (pos 0)) ≡ r.action
-  action_word = ap natural_of (stands_head rule_stands (pos 0))
+      stands_of (rule_words r) (drop parts.end ws) (sym read_words) (omega arith)
 
   root_key_lem : key_of (get_or ws (left_from at) (pos 0)) (get_or ws (left_from at + 1) (pos 0)) ≡ root_key r.left
   root_key_lem = let s = left_stands_lem ws at r rule_stands in ap₂ key_of (stands_head s (pos 0)) (stands_word s 1 (pos 0) (omega arith))
 
-  -- its row is written from what was found
-  row_is : rule_places at r ≡ row_of ws at right conditions end fixed leaves
-  row_is = cc (p.right_is, p.conditions_is, p.end_is, root_key_lem, action_word, p.fixed_is, p.leaves_is)
+  -- its row is made of what was found
+  row_is : rule_places at r ≡ row_of ws at parts
+  row_is = cc (p.action_is, p.right_is, p.conditions_is, p.end_is, root_key_lem, p.fixed_is, p.leaves_is)
 
-  pub row_fits : length ws ≤ 65536 → RowFits ws at right conditions end fixed leaves
+  pub row_fits : length ws ≤ 65536 → RowFits ws at parts
   row_fits h =
       let w = rule_stands.within in
       let n = rule_length in
@@ -210,61 +212,48 @@ module _ (ws : List ℤ) (at right conditions end fixed leaves : ℕ) (p : RuleA
         end_after = omega arith;
         end_fits = omega arith;
         short = h;
-        action = let e = action_word in let g = okay.action in omega arith;
+        action_fits = let e = p.action_is in let g = okay.action in omega arith;
         ones = let s = sizes_few (single r.right) in let g = okay.right.small in let e = p.fixed_is in omega arith;
         variables = let s = sizes_few (single r.right) in let g = okay.right.small in let e = p.leaves_is in omega arith;
       }
 
-module _ (index : List ℕ) (i : ℕ) (vs : List ℕ) (h : i + length vs ≤ length index) where
-  stored : sets index i vs ≡ take i index ++ vs ++ drop (i + length vs) index
-  stored = sets-eq vs index i h
-
-  head_length : length (take i index ++ vs) ≡ i + length vs
-  head_length = length-append (take i index) vs ∙ ap (λ (n : ℕ). n + length vs) (length-take-le i index (omega arith))
-
-  take_stored : take (i + length vs) (sets index i vs) ≡ take i index ++ vs
-  take_stored = ap (take (i + length vs)) stored ∙ take_at (take i index ++ vs) (drop (i + length vs) index) (i + length vs) head_length
-
-  drop_stored : drop (i + length vs) (sets index i vs) ≡ drop (i + length vs) index
-  drop_stored = ap (drop (i + length vs)) stored ∙ drop_at (take i index ++ vs) (drop (i + length vs) index) (i + length vs) head_length
-
 -- ---- what the loop answers
-module _ (ws : List ℤ) (old : List ℕ) where
+module _ (ws : List ℤ) (old : List Row) where
   pub refused_empty : length ws ≡ 0 → IndexTableContract ws old old bad
   refused_empty h = unread ws old (no_words ws h)
 
   pub refused_long : 65536 < length ws → IndexTableContract ws old old bad
   refused_long h = unread ws old (long_words ws h)
 
-  pub refused_count : 256 < natural_of (get_or ws 0 (pos 0)) → IndexTableContract ws old old bad
+  pub refused_count : None ≡ answered (number_below 257 (get_or ws 0 (pos 0))) → IndexTableContract ws old old bad
   refused_count h = unread ws old (many_rules ws h)
 
-  pub starts : 0 < length ws → length ws ≤ 65536 → natural_of (get_or ws 0 (pos 0)) ≤ 256 → index_length ≤ length old → Reached ws old old (natural_of (get_or ws 0 (pos 0))) 0 1
-  starts h l c r =
-      let t = counted ws h l c in
-      let n = natural_of (get_or ws 0 (pos 0)) in
+  pub starts : (count : ℕ) → 0 < length ws → length ws ≤ 65536 → Some count ≡ answered (number_below 257 (get_or ws 0 (pos 0))) → length old ≡ 256 → Reached ws old old count 0 1
+  starts n h l c r =
+      let t = counted ws n h l c in
+      let f = (number_is 257 (get_or ws 0 (pos 0)) n c).1 in
       let e : n ≡ n - 0 = omega arith in
       record {
         check = t.0 ∙ ap (λ (k : ℕ). rest_check (read_rules k (drop 1 ws))) e;
         found = t.1 ∙ ap (λ (k : ℕ). places_read k 1 (drop 1 ws)) e;
         kept = refl;
         long = r;
-        few = c;
+        few = omega arith;
         below = omega arith;
         short = l;
       }
 
-  module _ (index : List ℕ) (count rule at : ℕ) (r : Reached ws old index count rule at) where
+  module _ {index : List Row} {count rule at : ℕ} (r : Reached ws old index count rule at) where
     -- no more is found
     closed : places_read (count - rule) at (drop at ws) ≡ [] → index ≡ write (places_found ws) old
     closed e =
         let l = r.long in
         let f = r.few in
         let b = r.below in
-        let p : places_found ws ≡ take (per_rule * rule) index = r.found ∙ (ap (λ (xs : List ℕ). take (per_rule * rule) index ++ xs) e ∙ append-nil (take (per_rule * rule) index)) in
-        let n : length (places_found ws) ≡ per_rule * rule = ap length p ∙ length-take-le (per_rule * rule) index (omega arith) in
-        sym (ap (λ (xs : List ℕ). xs ++ drop (length (places_found ws)) old) p ∙ (ap (λ (k : ℕ). take (per_rule * rule) index ++ drop k old) n ∙
-        (ap (λ (xs : List ℕ). take (per_rule * rule) index ++ xs) (sym r.kept) ∙ take-append-drop (per_rule * rule) index)))
+        let p : places_found ws ≡ take rule index = r.found ∙ (ap (λ (xs : List Row). take rule index ++ xs) e ∙ append-nil (take rule index)) in
+        let n : length (places_found ws) ≡ rule = ap length p ∙ length-take-le rule index (omega arith) in
+        sym (ap (λ (xs : List Row). xs ++ drop (length (places_found ws)) old) p ∙ (ap (λ (k : ℕ). take rule index ++ drop k old) n ∙
+        (ap (λ (xs : List Row). take rule index ++ xs) (sym r.kept) ∙ take-append-drop rule index)))
 
     module _ (h : rule < count) where
       one : count - rule ≡ suc (count - (rule + 1))
@@ -277,31 +266,29 @@ module _ (ws : List ℤ) (old : List ℕ) where
           (sym (r.check ∙ (ap (λ (n : ℕ). rest_check (read_rules n (drop at ws))) one ∙ ap (λ (o : Option (Rule × List ℤ)). rest_check (o >>= rule_then k)) e)))
           (closed (ap (λ (n : ℕ). places_read n at (drop at ws)) one ∙ ap (λ (o : Option (Rule × List ℤ)). places_then at o (λ i xs. places_read k i xs)) e))
 
-      pub goes_on : (right conditions end fixed leaves : ℕ) → RuleAt ws at right conditions end fixed leaves → Reached ws old (sets index (per_rule * rule) (row_of ws at right conditions end fixed leaves)) count (rule + 1) end
-      goes_on right conditions end fixed leaves p =
+      pub goes_on : (parts : Parts) → RuleAt ws at parts → Reached ws old (set index rule (row_of ws at parts)) count (rule + 1) parts.end
+      goes_on parts p =
           let k = count - (rule + 1) in
-          let vs : List ℕ = row_of ws at right conditions end fixed leaves in
+          let end = parts.end in
+          let v : Row = row_of ws at parts in
           let l = r.long in
           let f = r.few in
-          let room : per_rule * rule + length vs ≤ length index = omega arith in
-          let next : per_rule * (rule + 1) ≡ per_rule * rule + length vs = omega arith in
-          let rest : List ℕ = places_read k end (drop end ws) in
-          let new : List ℕ = sets index (per_rule * rule) vs in
-          let n = length-sets index (per_rule * rule) vs in
+          let room : rule < length index = omega arith in
+          let rest : List Row = places_read k end (drop end ws) in
+          let n = length-set index rule v in
           record {
             check =
                 r.check ∙ (ap (λ (n : ℕ). rest_check (read_rules n (drop at ws))) one ∙
                 (ap (λ (o : Option (Rule × List ℤ)). rest_check (o >>= rule_then k)) p.read ∙ more_is p.rule (read_rules k (drop end ws))));
             found =
-                r.found ∙ (ap (λ (xs : List ℕ). take (per_rule * rule) index ++ xs)
+                r.found ∙ (ap (λ (xs : List Row). take rule index ++ xs)
                 (ap (λ (n : ℕ). places_read n at (drop at ws)) one ∙ (ap (λ (o : Option (Rule × List ℤ)). places_then at o (λ i xs. places_read k i xs)) p.read ∙
-                (ap (λ (xs : List ℕ). xs ++ places_read k (at + length (rule_words p.rule)) (drop end ws)) (row_is ws at right conditions end fixed leaves p) ∙
-                ap (λ (i : ℕ). vs ++ places_read k i (drop end ws)) (rule_length ws at right conditions end fixed leaves p)))) ∙
-                (sym (append_assoc (take (per_rule * rule) index) vs rest) ∙
-                ap (λ (xs : List ℕ). xs ++ rest) (sym (take_stored index (per_rule * rule) vs room) ∙ ap (λ (i : ℕ). take i new) (sym next))));
+                (ap (λ (x : Row). x ∷ places_read k (at + length (rule_words p.rule)) (drop end ws)) (row_is ws at parts p) ∙
+                ap (λ (i : ℕ). v ∷ places_read k i (drop end ws)) (rule_length ws at parts p)))) ∙
+                (sym (append_assoc (take rule index) (v ∷ []) rest) ∙
+                ap (λ (xs : List Row). xs ++ rest) (sym (take_more_set index rule v room))));
             kept =
-                ap (λ (i : ℕ). drop i new) next ∙ (drop_stored index (per_rule * rule) vs room ∙ (sym (drop-drop (length vs) (per_rule * rule) index) ∙
-                (ap (drop (length vs)) r.kept ∙ (drop-drop (length vs) (per_rule * rule) old ∙ ap (λ (i : ℕ). drop i old) (sym next)))));
+                drop-set-lt (rule + 1) index rule v (omega arith) ∙ (sym (drop-drop 1 rule index) ∙ (ap (drop 1) r.kept ∙ drop-drop 1 rule old));
             long = omega arith;
             few = f;
             below = omega arith;

@@ -1,6 +1,6 @@
 -- Ground terms: the walk of the crate `term` is the walk over nodes of the level `Ground`.
 use mathlib.Core.Path.{◌≡◌, refl, sym, ◌∙◌, ap}
-use mathlib.Core.Bool.{Bool}
+use mathlib.Core.Bool.{Bool, true, false, true≢false}
 use mathlib.Core.Option.{Option, none, some}
 use mathlib.Core.List.{List, [], ◌∷◌, ◌++◌}
 use Prim.Native.Nat.{ℕ, zero, suc, ◌+◌, ◌≤◌}
@@ -12,20 +12,21 @@ use lib.Seq.{drop-drop}
 use Rattle.minuska.specs.Basics.{◌>>=◌, provided}
 use Rattle.minuska.specs.Computed.Read.{read_node}
 use Rattle.minuska.specs.Term.{Label, error, truth, whole, variable, call, symbol, dictionary}
-use Rattle.term.specs.TermEnd.{ground_label, children_if, extent, place_of, ground_terms_end, GroundTermsAre, place_in}
-use Rattle.term.specs.declared.ground.Ground.{Ground}
-use Rattle.term.specs.declared.ground.Ground.TheVariants as G
-use Rattle.term.specs.declared.Place.TheVariants as P
+use Rattle.term.specs.TermEnd.{ground_label, children_if, extent, place_of, ground_terms_end, GroundTermsAre}
 use Rattle.term.proofs.TermEndLaw.{extent_long, ground_terms_are, place_some}
+use Rattle.std.specs.Prelude.{Some, None}
 use Rattle.table.specs.Level.{Level}
 use Rattle.table.specs.Level as L
 use Rattle.table.specs.Below.{Below}
 use Rattle.table.specs.Below as B
 use Rattle.table.specs.Node.{kind, node_as, node_in, node_of, admit_node, admitted}
 use Rattle.table.specs.Walk.{Walked, onward, walk}
-use Rattle.table.specs.Reach.{Reaches, Stops}
+use Rattle.table.specs.Reach.{Reaches, Stops, Missed, Ends, EndIs}
+use Rattle.term.specs.declared.ground.Walked as TW
+use Rattle.std.specs.Prelude as S
 use Rattle.table.proofs.BasicLaw.{never}
 use Rattle.table.proofs.KeepLaw.{node_keeps}
+use Rattle.table.proofs.MetLaw.{met_ground}
 use Rattle.table.proofs.ReachLaw.{more}
 
 -- ---- one node
@@ -37,7 +38,7 @@ ground_admitted : (t d : ℤ) (seen : List Bool) → admitted L.Ground t d seen 
 unfolding admitted node_of below
 ground_admitted t d seen = pick (read_node t d)
   where
-    at : (l : Label) (k : ℕ) → admit_node L.Ground seen (node_as (kind l) k) ≡ below (provided (ground_label l) k)
+    at : (l : Label) (k : ℕ) → admit_node L.Ground seen (Some (node_as (kind l) k)) ≡ below (provided (ground_label l) k)
     at error k = refl
     at (truth b) k = refl
     at (whole z) k = refl
@@ -81,7 +82,7 @@ module _ (ls : List Level) (seen : List Bool) where
       pick (some n) i = ap (λ (x : List Level). walk ws (at + 2) x seen) (more L.Ground n k ls) ∙ (i (n + k) ∙ last (extent ground_label ws (n + k)))
 
 module _ (ws : List ℤ) (at k : ℕ) (seen : List Bool) where
-  ground_reaches : at ≤ length ws → (e : ℕ) → P.At e ≡ ground_terms_end ws at k → Reaches ws L.Ground at k seen e 0 seen
+  ground_reaches : at ≤ length ws → (e : ℕ) → Some e ≡ ground_terms_end ws at k → Reaches ws L.Ground at k seen e 0 seen
   unfolding behind
   ground_reaches h e q =
       let a = place_some at e (extent ground_label (drop at ws) k) (sym (q ∙ ground_terms_are ws at k)) in
@@ -96,17 +97,24 @@ module _ (ws : List ℤ) (at k : ℕ) (seen : List Bool) where
             (ap (λ (x : List ℤ). walk x (at + a.0) ls seen) (drop-drop a.0 at ws) ∙ ap (λ (n : ℕ). walk (drop n ws) n ls seen) z));
       }
 
-  ground_stops : P.Nowhere ≡ ground_terms_end ws at k → Stops ws L.Ground at k seen seen
+  ground_stops : None ≡ ground_terms_end ws at k → Stops ws L.Ground at k seen seen
   unfolding behind
   ground_stops q = record { nowhere = λ ls. ground_walk ls seen (drop at ws) k at ∙ ap (behind ls seen (drop at ws) at) (no_place (extent ground_label (drop at ws) k) (q ∙ ground_terms_are ws at k)) }
     where
-      no_place : (o : Option ℕ) → P.Nowhere ≡ place_of at o → o ≡ none
+      no_place : (o : Option ℕ) → None ≡ place_of at o → o ≡ none
       no_place none e = refl
       no_place (some m) e = absurd (never (cc))
 
-  -- what the walk answered
-  pub ground_found : at ≤ length ws → {r : Ground} → GroundTermsAre ws at k r → (e : ℕ) (met : Bool) → r ≡ G.At e met → Reaches ws L.Ground at k seen e 0 seen
-  ground_found h g e met q = ground_reaches h e (sym (ap place_in q) ∙ g.place)
+  -- what the walks answered
+  pub ground_on : {mixed : Bool} → at ≤ length ws → {e : ℕ} {met : Bool} → GroundTermsAre ws at k (Some (record { end = e; met = met })) → (mixed ≡ false → met ≡ false) → Ends mixed ws L.Ground at k seen seen e met
+  ground_on h {e} {met} g u = record { reaches = ground_reaches h e g.place; order = met_ground ws at k (record { end = e; met = met }) g; unmet = u }
 
-  pub ground_missed : {r : Ground} → GroundTermsAre ws at k r → r ≡ G.Nowhere → Stops ws L.Ground at k seen seen
-  ground_missed g q = ground_stops (sym (ap place_in q) ∙ g.place)
+  pub ground_off : {mixed : Bool} → GroundTermsAre ws at k None → Missed mixed ws L.Ground at k seen seen
+  ground_off g = record { kept = refl; nowhere = λ m. ground_stops g.place }
+
+  pub untold : {mixed : Bool} → mixed ≡ false → Missed mixed ws L.Ground at k seen seen
+  untold f = record { kept = refl; nowhere = λ m. absurd (true≢false (sym m ∙ f)) }
+
+  pub ground_answered : (mixed : Bool) → mixed ≡ true → at ≤ length ws → (r : S.Option TW.Walked) → GroundTermsAre ws at k r → EndIs mixed ws L.Ground at k seen seen r
+  ground_answered mixed m h None g = ground_off g
+  ground_answered mixed m h (Some w) g = ground_on h g (λ f. absurd (true≢false (sym m ∙ f)))

@@ -5,19 +5,20 @@ use mathlib.Core.Bool.{Bool, true, false}
 use mathlib.Core.Logic.{◌↔◌}
 use mathlib.Core.Option.{none, some, none-ne-some, some-injective}
 use mathlib.Core.List.{List, [], ◌∷◌}
-use Prim.Native.Nat.{ℕ, zero, suc, ◌+◌, ◌*◌, ◌≤◌, ◌<◌}
+use Prim.Native.Nat.{ℕ, zero, suc, ◌+◌, ◌≤◌, ◌<◌}
 use native.Mathlib.Omega.{arith}
 use lib.Dec.{leb}
 use lib.IntN.{ℤ, pos}
 use lib.ListN.{length, get_or, get_elem?}
 use borrow.Author.Tests.{leb-true, leb-false}
-use Rattle.minuska.specs.Rule.{Rule, Table, IsTable}
+use Rattle.minuska.specs.Rule.{Rule, Table, rule_words, IsTable}
 use Rattle.minuska.specs.Computed.Step.{up_from, order}
-use Rattle.minuska.specs.Bridge.Place.{Stands, left_words, right_words, conditions_words, left_from, right_from, conditions_from, first_rule, per_rule, Indexed, Names, PartIs, RuleCountIs, ActionIs, OrderedIs, SizesAre, Positions}
-use Rattle.minuska.proofs.Bridge.IndexLaw.{one_table, RulePlaced, rule_placed, left_stands_lem, right_stands, conditions_stand}
+use Rattle.minuska.specs.Bridge.Place.{Stands, left_words, right_words, conditions_words, left_from, right_from, conditions_from, first_rule, rule_places, Indexed, Names, PartIs, RuleCountIs, ActionIs, OrderedIs, SizesAre, Positions}
+use Rattle.minuska.proofs.Bridge.IndexLaw.{one_table, rule_placed, left_stands_lem, right_stands, conditions_stand}
 use Rattle.minuska.proofs.Bridge.PositionLaw.{element_there, few_rules, order_length}
 use Rattle.minuska.proofs.OrderLaw.{named_below}
-use Rattle.table.specs.Number.{natural_of}
+use Rattle.minuska.specs.declared.Row.{Row}
+use Rattle.table.specs.Index.{RowIs}
 
 -- ---- the first word
 module _ (ws : List ℤ) (t : Table) (p : IsTable ws t) where
@@ -27,8 +28,11 @@ module _ (ws : List ℤ) (t : Table) (p : IsTable ws t) where
   pub some_words : 0 < length ws
   some_words = let e = ap length p.words in omega arith
 
-pub rule_count_is : (ws : List ℤ) (n : ℕ) → n ≡ natural_of (get_or ws 0 (pos 0)) → RuleCountIs ws n
-rule_count_is ws n e = record { is = λ t p. e ∙ ap natural_of (first_word ws t p) }
+pub rule_count_is : (ws : List ℤ) (n : ℕ) → pos n ≡ get_or ws 0 (pos 0) → RuleCountIs ws n
+rule_count_is ws n e = record { is = λ t p. same (e ∙ first_word ws t p) }
+  where
+    same : {n m : ℕ} → pos n ≡ pos m → n ≡ m
+    same q = cc
 
 -- positions up to the rule count are there
 pub positions_of : (ws : List ℤ) (count to : ℕ) → RuleCountIs ws count → to ≤ count → Positions ws to
@@ -52,57 +56,59 @@ no_rule ws count c n h =
       other = λ t p e. refl;
     }
 
-pub names_below : (ws : List ℤ) (index : List ℕ) → Indexed ws index → (count : ℕ) → RuleCountIs ws count → (n : ℕ) → n < count → Names ws n
+pub names_below : (ws : List ℤ) (index : List Row) → Indexed ws index → (count : ℕ) → RuleCountIs ws count → (n : ℕ) → n < count → Names ws n
 names_below ws index x count c n h =
     let r = (names_iff ws x.table count n c x.is).1 h in
     record { table = x.table; is = x.is; rule = r.0; numbered = r.1 }
 
 -- ---- a rule by its row: its action, and where its parts stand
-module _ (ws : List ℤ) (index : List ℕ) (n : ℕ) (x : Indexed ws index) where
-  placed : (t : Table) (r : Rule) → IsTable ws t → get_elem? t n ≡ some r → RulePlaced ws index n r
-  placed t r p e = rule_placed ws index t n r x p e
+got : {A : Type 0} (xs : List A) (n : ℕ) (d x : A) → get_elem? xs n ≡ some x → get_or xs n d ≡ x
+got [] n d x e = absurd (none-ne-some x e)
+got (y ∷ xs) zero d x e = some-injective y x e
+got (y ∷ xs) (suc n) d x e = got xs n d x e
 
-  pub named_small : Names ws n → n < 256
-  named_small a = let h = named_below a.table n a.rule a.numbered in let k = few_rules a.table a.is.accepted in omega arith
+pub named_small : (ws : List ℤ) (n : ℕ) → Names ws n → n < 256
+named_small ws n a = let h = named_below a.table n a.rule a.numbered in let k = few_rules a.table a.is.accepted in omega arith
 
-  action_at_lem : (t : Table) (r : Rule) → IsTable ws t → get_elem? t n ≡ some r → get_or index (per_rule * n + 5) 0 ≡ r.action
-  action_at_lem t r p e = (placed t r p e).numbers 5 (omega arith)
+pub row_at : (ws : List ℤ) (index : List Row) (n : ℕ) (d : Row) → Indexed ws index → RowIs ws n (get_or index n d)
+row_at ws index n d x =
+    record { rule = λ t r p e. let q = rule_placed ws index t n r x p e in record { start = q.start; stands = q.stands; is = got index n d (rule_places q.start r) q.row } }
 
-  pub action_is : Names ws n → (k : ℕ) → k ≡ get_or index (per_rule * n + 5) 0 → ActionIs ws n k
-  action_is a k q =
+module _ {ws : List ℤ} {n : ℕ} {row : Row} (w : RowIs ws n row) where
+  pub action_is : Names ws n → ActionIs ws n row.action
+  action_is a =
       record {
-        is = λ t r p e. q ∙ action_at_lem t r p e;
-        other = λ t p e. absurd (none-ne-some a.rule (sym e ∙ (ap (λ (u : Table). get_elem? u n) (one_table ws t a.table p a.is) ∙ a.numbered)));
+        is = λ t r p q. ap (λ (x : Row). x.action) (w.rule t r p q).is;
+        other = λ t p q. absurd (none-ne-some a.rule (sym q ∙ (ap (λ (u : Table). get_elem? u n) (one_table ws t a.table p a.is) ∙ a.numbered)));
       }
 
-  pub sizes_are : (fixed leaves : ℕ) → fixed ≡ get_or index (per_rule * n + 6) 0 → leaves ≡ get_or index (per_rule * n + 7) 0 → SizesAre ws n fixed leaves
-  sizes_are fixed leaves a b =
+  pub sizes_are : SizesAre ws n row.fixed row.leaves
+  sizes_are = record { ones = λ t r p q. ap (λ (x : Row). x.fixed) (w.rule t r p q).is; variables = λ t r p q. ap (λ (x : Row). x.leaves) (w.rule t r p q).is }
+
+  part_is : {words : Rule → List ℤ} {from to : ℕ} → ((r : Rule) (start : ℕ) → row ≡ rule_places start r → Stands ws start (rule_words r) → Stands ws from (words r) × (to ≡ from + length (words r))) → PartIs words ws n from to
+  part_is f =
       record {
-        ones = λ t r p e. a ∙ (placed t r p e).numbers 6 (omega arith);
-        variables = λ t r p e. b ∙ (placed t r p e).numbers 7 (omega arith);
+        stands = λ t r p q. let o = w.rule t r p q in (f r o.start o.is o.stands).0;
+        ends = λ t r p q. let o = w.rule t r p q in (f r o.start o.is o.stands).1;
       }
 
-  part_is : {words : Rule → List ℤ} {from to : ℕ} → ((r : Rule) → RulePlaced ws index n r → Stands ws from (words r) × (to ≡ from + length (words r))) → PartIs words ws n from to
-  part_is f = record { stands = λ t r p e. (f r (placed t r p e)).0; ends = λ t r p e. (f r (placed t r p e)).1 }
+  pub left_is : PartIs left_words ws n (row.left + first_rule) (row.right + first_rule)
+  left_is =
+      part_is (λ r start w s.
+      let a : row.left + first_rule ≡ left_from start = omega (arith, ap (λ (x : Row). x.left) w) in
+      (subst⁻¹ (λ (k : ℕ). Stands ws k (left_words r)) a (left_stands_lem ws start r s), omega (arith, ap (λ (x : Row). x.right) w, ap (λ (x : Row). x.left) w)))
 
-  module _ (from to : ℕ) where
-    pub left_is : from ≡ get_or index (per_rule * n + 0) 0 + first_rule → to ≡ get_or index (per_rule * n + 1) 0 + first_rule → PartIs left_words ws n from to
-    left_is p q =
-        part_is (λ r o.
-        let a : from ≡ left_from o.start = omega (arith, o.numbers 0 (omega arith)) in
-        (subst⁻¹ (λ (k : ℕ). Stands ws k (left_words r)) a (left_stands_lem ws o.start r o.stands), omega (arith, o.numbers 1 (omega arith))))
+  pub right_is_lem : PartIs right_words ws n (row.right + first_rule) (row.conditions + first_rule)
+  right_is_lem =
+      part_is (λ r start w s.
+      let a : row.right + first_rule ≡ right_from start r = omega (arith, ap (λ (x : Row). x.right) w) in
+      (subst⁻¹ (λ (k : ℕ). Stands ws k (right_words r)) a (right_stands ws start r s), omega (arith, ap (λ (x : Row). x.conditions) w, ap (λ (x : Row). x.right) w)))
 
-    pub right_is_lem : from ≡ get_or index (per_rule * n + 1) 0 + first_rule → to ≡ get_or index (per_rule * n + 2) 0 + first_rule → PartIs right_words ws n from to
-    right_is_lem p q =
-        part_is (λ r o.
-        let a : from ≡ right_from o.start r = omega (arith, o.numbers 1 (omega arith)) in
-        (subst⁻¹ (λ (k : ℕ). Stands ws k (right_words r)) a (right_stands ws o.start r o.stands), omega (arith, o.numbers 2 (omega arith))))
-
-    pub conditions_are : from ≡ get_or index (per_rule * n + 2) 0 + first_rule → to ≡ get_or index (per_rule * n + 3) 0 + first_rule → PartIs conditions_words ws n from to
-    conditions_are p q =
-        part_is (λ r o.
-        let a : from ≡ conditions_from o.start r = omega (arith, o.numbers 2 (omega arith)) in
-        (subst⁻¹ (λ (k : ℕ). Stands ws k (conditions_words r)) a (conditions_stand ws o.start r o.stands), omega (arith, o.numbers 3 (omega arith))))
+  pub conditions_are : PartIs conditions_words ws n (row.conditions + first_rule) (row.end + first_rule)
+  conditions_are =
+      part_is (λ r start w s.
+      let a : row.conditions + first_rule ≡ conditions_from start r = omega (arith, ap (λ (x : Row). x.conditions) w) in
+      (subst⁻¹ (λ (k : ℕ). Stands ws k (conditions_words r)) a (conditions_stand ws start r s), omega (arith, ap (λ (x : Row). x.end) w, ap (λ (x : Row). x.conditions) w)))
 
 -- ---- the order of rules, by position
 up_at : (i k q n : ℕ) → get_elem? (up_from i k) q ≡ some n → i + q ≡ n

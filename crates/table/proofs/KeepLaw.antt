@@ -5,14 +5,14 @@ use mathlib.Core.List.{List, [], ◌∷◌, ◌++◌}
 use Prim.Native.Nat.{ℕ, zero, suc, ◌+◌}
 use lib.IntN.{ℤ}
 use lib.ListN.{drop, get_or, replicate}
+use Rattle.std.specs.Prelude.{Option, Some, None}
 use Rattle.table.specs.Level.{Level, Left, Right, Expression, Ground}
 use Rattle.table.specs.Below.{Below}
 use Rattle.table.specs.Below as B
 use Rattle.table.specs.declared.node.Node.{Node}
 use Rattle.table.specs.declared.node.Node.TheVariants as N
 use Rattle.table.specs.Node.{node_of, flags, flag_node, takes_call, takes_variable, under_plain, admit_node, admitted, seen_after}
-use Rattle.table.specs.Plain.{Kept}
-use Rattle.table.specs.Reach.{Reaches}
+use Rattle.table.specs.Reach.{Reaches, Kept}
 use Rattle.table.specs.Walk.{Walked, onward, walk, part_walk, part_seen}
 use Rattle.table.proofs.BasicLaw.{never}
 use Rattle.table.proofs.TestLaw.{Inner}
@@ -40,26 +40,26 @@ admitted_inner l i t d s b k = at (node_of t d)
     taken true x j i e = let p : x ≡ b = cc in subst Inner p i
     taken false x j i e = absurd (never (cc))
 
-    at : (n : Node) → admit_node l s n ≡ B.Are b k → Inner b
-    at (N.Plain j) e = let p : under_plain l ≡ b = cc in subst Inner p (under l i)
-    at (N.Literal j) e = let p : Ground ≡ b = cc in subst Inner p tt
-    at (N.Call j c) e = taken (takes_call l c) Expression j tt e
-    at (N.Variable v) e = taken (takes_variable l (get_or s v false)) l 0 i e
-    at N.Bad e = absurd (never (cc))
+    at : (n : Option Node) → admit_node l s n ≡ B.Are b k → Inner b
+    at (Some (N.Plain j)) e = let p : under_plain l ≡ b = cc in subst Inner p (under l i)
+    at (Some (N.Literal j)) e = let p : Ground ≡ b = cc in subst Inner p tt
+    at (Some (N.Call j c)) e = taken (takes_call l c) Expression j tt e
+    at (Some (N.Variable v)) e = taken (takes_variable l (get_or s v false)) l 0 i e
+    at None e = absurd (never (cc))
 
 pub node_keeps : (l : Level) → Inner l → (t d : ℤ) (seen : List Bool) → seen_after l t d seen ≡ seen
 unfolding seen_after
 node_keeps l i t d seen = at l i (node_of t d)
   where
-    at : (l : Level) → Inner l → (n : Node) → flag_node l seen n ≡ seen
-    at l i (N.Plain k) = refl
-    at l i (N.Literal k) = refl
-    at l i (N.Call k c) = refl
-    at Left i (N.Variable v) = absurd i
-    at Right i (N.Variable v) = refl
-    at Expression i (N.Variable v) = refl
-    at Ground i (N.Variable v) = refl
-    at l i N.Bad = refl
+    at : (l : Level) → Inner l → (n : Option Node) → flag_node l seen n ≡ seen
+    at l i (Some (N.Plain k)) = refl
+    at l i (Some (N.Literal k)) = refl
+    at l i (Some (N.Call k c)) = refl
+    at Left i (Some (N.Variable v)) = absurd i
+    at Right i (Some (N.Variable v)) = refl
+    at Expression i (Some (N.Variable v)) = refl
+    at Ground i (Some (N.Variable v)) = refl
+    at l i None = refl
 
 walk_keeps : (ws : List ℤ) (at : ℕ) (ls : List Level) (seen : List Bool) → Inners ls → (walk ws at ls seen).seen ≡ seen
 walk_keeps [] at [] seen is = refl

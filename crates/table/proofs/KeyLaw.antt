@@ -3,7 +3,7 @@ use mathlib.Core.Path.{◌≡◌, refl, sym, ◌∙◌, ap, ap₂}
 use mathlib.Core.Logic.{◌⊎◌, inl, inr}
 use mathlib.Core.Option.{some}
 use mathlib.Core.List.{List}
-use Prim.Native.Nat.{ℕ, ◌+◌, ◌*◌, ◌%◌, ◌≤◌, ◌<◌}
+use Prim.Native.Nat.{ℕ, ◌+◌, ◌*◌, ◌≤◌, ◌<◌}
 use native.Mathlib.Decide.{ℕ_discrete}
 use native.Mathlib.Omega.{arith}
 use lib.IntN.{ℤ, pos, negsuc}
@@ -13,26 +13,24 @@ use Rattle.minuska.specs.Term.{Term}
 use Rattle.minuska.specs.Word.{datum_word}
 use Rattle.minuska.specs.Rule.{Rule, Table, IsTable}
 use Rattle.minuska.specs.Computed.Step.{order}
-use Rattle.minuska.specs.Bridge.Place.{key_of, root_key, RootMeets, per_rule, Indexed, OrderedIs, Positions, KeysDiffer, RootKeyIs, RootsPassed, Accepted}
-use Rattle.minuska.proofs.Bridge.IndexLaw.{rule_placed}
+use Rattle.minuska.specs.Bridge.Place.{key_of, remainder, root_key, RootMeets, Indexed, OrderedIs, Positions, KeysDiffer, RootKeyIs, RootsPassed, SeekIs, Accepted}
+use Rattle.table.proofs.IndexLaw.{row_at}
 use Rattle.minuska.proofs.Bridge.PositionLaw.{element_at, few_rules, order_names}
-use Rattle.table.specs.Number.{natural_of}
+use Rattle.minuska.specs.declared.Row.{Row}
 
 -- ---- what `key` answers
-pub key_variable : (t d : ℤ) → natural_of t ≡ 3 → 0 ≡ key_of t d
+pub key_variable : (t d : ℤ) → t ≡ pos 3 → 0 ≡ key_of t d
 unfolding key_of
-key_variable (pos n) d e = rw e refl
-key_variable (negsuc n) d e = absurd (let f : ⊥ = omega arith in f)
+key_variable t d e = rw e refl
 
-abbrev pub key_number : ℕ → ℕ → ℕ
-key_number t d = 4096 * (t % 16) + d % 4096
-
-pub key_other : (t d : ℤ) → (natural_of t ≡ 3 → ⊥) → key_number (natural_of t) (natural_of d) ≡ key_of t d
+pub key_other : (t d : ℤ) → (t ≡ pos 3 → ⊥) → 4096 * remainder t 16 + remainder d 4096 ≡ key_of t d
 unfolding key_of
-key_other (pos n) (pos m) f = rw (ne_eqb n 3 f) refl
-key_other (pos n) (negsuc m) f = rw (ne_eqb n 3 f) refl
-key_other (negsuc n) (pos m) f = refl
-key_other (negsuc n) (negsuc m) f = refl
+key_other (pos n) d f = rw (ne_eqb n 3 (λ e. f (ap pos e))) refl
+key_other (negsuc n) d f = refl
+
+pub remainder_small : (z : ℤ) (m : ℕ) → 0 < m → remainder z m < m
+remainder_small (pos n) m h = omega arith
+remainder_small (negsuc n) m h = h
 
 -- ---- what `seek` passes over
 variable_key : (d : ℤ) → key_of (pos 3) d ≡ 0
@@ -50,7 +48,7 @@ root_there a = omega (arith, ap length a.is.words)
 pub root_key_lem : {cs : List ℤ} {root : ℕ} → root ≡ key_of (get_or cs 0 (pos 0)) (get_or cs 1 (pos 0)) → RootKeyIs cs root
 root_key_lem e = record { is = λ g q. e ∙ ap (λ (c : List ℤ). key_of (get_or c 0 (pos 0)) (get_or c 1 (pos 0))) (sym q.words) }
 
-module _ (ws : List ℤ) (index : List ℕ) (x : Indexed ws index) where
+module _ (ws : List ℤ) (index : List Row) (x : Indexed ws index) where
   -- a position names a rule
   pub position_small : (to i n : ℕ) → Positions ws to → i < to → OrderedIs ws i n → n < 256
   position_small to i n p h o =
@@ -67,11 +65,14 @@ module _ (ws : List ℤ) (index : List ℕ) (x : Indexed ws index) where
     none_passed = record { keys = λ t r g i n p q h k e f. absurd (let z : ⊥ = omega arith in z); differ = λ t r g i n p q h k e f m. let z : ⊥ = omega arith in z }
 
     -- the rule at a position, of which the index has the key k
-    module _ (i n k : ℕ) (o : OrderedIs ws i n) (ek : k ≡ get_or index (per_rule * n + 4) 0) where
+    module _ (i n : ℕ) (d : Row) (o : OrderedIs ws i n) where
+      abbrev k : ℕ
+      k = (get_or index n d).key
+
       left_key : (t : Table) (r : Rule) (m : ℕ) → IsTable ws t → get_elem? (order t) i ≡ some m → get_elem? t m ≡ some r → k ≡ root_key r.left
       left_key t r m p e u =
           let w : n ≡ m = o.is t p m e in
-          ek ∙ (rule_placed ws index t n r x p (ap (λ (y : ℕ). get_elem? t y) w ∙ u)).numbers 4 (omega arith)
+          ap (λ (y : Row). y.key) ((row_at ws index n d x).rule t r p (ap (λ (y : ℕ). get_elem? t y) w ∙ u)).is
 
       pub stops_here : (k ≡ root) ⊎ (k ≡ 0) → (t : Table) (r : Rule) (g : Term) (m : ℕ) → IsTable ws t → root ≡ root_key g → get_elem? (order t) i ≡ some m → get_elem? t m ≡ some r → KeysDiffer r.left g → ⊥
       stops_here (inl h) t r g m p q e u d = d.1 (sym (left_key t r m p e u) ∙ (h ∙ q))
@@ -89,3 +90,9 @@ module _ (ws : List ℤ) (index : List ℕ) (x : Indexed ws index) where
               let a : k ≡ root_key r.left = left_key t r m p (ap (λ (y : ℕ). get_elem? (order t) y) (sym d) ∙ e) u in
               ((λ y. z (a ∙ y)), (λ y. f (a ∙ (y ∙ sym q))))
           pick t r g j m p q lo hi e u (no d) = past.keys t r g j m p q lo (omega arith) e u
+
+    pub stops_at : (to i n : ℕ) (d : Row) → OrderedIs ws i n → from ≤ i → i < to → RootsPassed ws root from i → ((get_or index n d).key ≡ root) ⊎ ((get_or index n d).key ≡ 0) → SeekIs ws root from to i
+    stops_at to i n d o l h p w = record { low = l; high = omega arith; passed = p; stops = λ t r g m b q e f u. stops_here i n d o w t r g m q e f u }
+
+    pub all_passed : (to : ℕ) → from ≤ to → RootsPassed ws root from to → SeekIs ws root from to to
+    all_passed to h p = record { low = h; high = omega arith; passed = p; stops = λ t r g m b q e f u d. let z : ⊥ = omega arith in z }

@@ -13,7 +13,6 @@ pub mod TestLaw
 pub mod KeepLaw
 pub mod GroundLaw
 pub mod KindLaw
-pub mod PlainLaw
 pub mod SideLaw
 pub mod ConditionLaw
 pub mod RuleLaw

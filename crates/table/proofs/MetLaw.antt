@@ -6,8 +6,8 @@ use Prim.Native.Nat.{ℕ, ◌+◌}
 use lib.IntN.{ℤ}
 use Rattle.term.proofs.MetLaw.{none_yet, none_joined, none_here}
 use Rattle.term.specs.TermEnd.{GroundTermsAre}
-use Rattle.term.specs.declared.ground.Ground.{Ground}
-use Rattle.term.specs.declared.ground.Ground.TheVariants as G
+use Rattle.term.specs.declared.ground.Walked.{Walked}
+use Rattle.std.specs.Prelude.{Some}
 use Rattle.table.specs.Node.{NodeAt}
 use Rattle.table.specs.Reach.{Met}
 use Rattle.table.specs.declared.node.Node.{Node}
@@ -33,12 +33,11 @@ module _ (ws : List ℤ) where
   met_on a b c x y m n = record { none = λ e. none_joined ws a b c (m.none (or_left x y e)) (n.none (or_right x y e)) }
 
   -- the answer of the walk over ground terms
-  pub met_ground : (at k : ℕ) {r : Ground} → GroundTermsAre ws at k r → (e : ℕ) (met : Bool) → r ≡ G.At e met → Met ws at e met
-  met_ground at k g e true q = met_some at e
-  met_ground at k g e false q = record { none = λ p. g.none e q }
+  pub met_ground : (at k : ℕ) (w : Walked) → GroundTermsAre ws at k (Some w) → Met ws at w.end w.met
+  met_ground at k w g = record { none = λ p. g.none w refl p }
 
 -- a node that is no dictionary, alone and in front of others
-module _ {ws : List ℤ} {i : ℕ} {n : Node} (h : NodeAt ws i n) (f : MayHave n → ⊥) where
+module _ {ws : List ℤ} {i : ℕ} {n : Node} (h : NodeAt ws i n) (f : MayHave (Some n) → ⊥) where
   pub met_node : Met ws i (i + 2) false
   met_node = record { none = λ e. none_here ws i (λ q. f (node_other h q)) }
 

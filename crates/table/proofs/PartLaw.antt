@@ -1,6 +1,6 @@
 -- A term walked is a term read: the walk finds the place behind a term exactly if the words there are one that passes.
 use mathlib.Core.Path.{◌≡◌, refl, sym, ◌∙◌, ap, subst, subst⁻¹}
-use mathlib.Core.Bool.{Bool, true, false}
+use mathlib.Core.Bool.{Bool, true, false, cond}
 use mathlib.Core.Option.{Option, none, some, none-ne-some, some-injective}
 use mathlib.Core.List.{List, [], ◌∷◌, ◌++◌}
 use Prim.Native.Nat.{ℕ, suc, ◌+◌, ◌-◌, ◌≤◌, ◌<◌}
@@ -23,13 +23,15 @@ use Rattle.minuska.proofs.Bridge.ShapeLaw.{ok_shapely, ok_ordered}
 use Rattle.term.proofs.OrderLaw.{none_ordered}
 use Rattle.term.specs.Order.{FillsTo, Filled, InOrder}
 use Rattle.term.specs.TermEnd.{NoneMet}
-use Rattle.term.specs.declared.Place.TheVariants as P
-use Rattle.table.specs.Level.{Level}
+use Rattle.std.specs.Prelude.{Some, None}
+use Rattle.table.specs.Level.{Level, Expression}
 use Rattle.table.specs.Below.{Below}
 use Rattle.table.specs.Below as B
 use Rattle.table.specs.Node.{admitted, seen_after}
-use Rattle.table.specs.Reach.{Reaches, Stops}
-use Rattle.table.specs.Walk.{Walked, onward, walk, within, in_order, placed, part_walk, part_end, part_seen, PartContract}
+use Rattle.table.specs.Number.{answered}
+use Rattle.table.specs.Reach.{Reaches, Stops, Met}
+use Rattle.table.specs.Part.{Ending, ExpressionIs}
+use Rattle.table.specs.Walk.{Walked, onward, walk, within, in_order, part_walk, part_end, part_seen, PartContract}
 use Rattle.table.proofs.BasicLaw.{never}
 use Rattle.table.proofs.NodeLaw.{admitted_read}
 use Rattle.table.proofs.ScanLaw.{scan, found, walk_encode}
@@ -145,13 +147,13 @@ twice : (t : Term) → length (encode (single t)) ≡ node_count t + node_count 
 twice t = let e = encode_length (single t) in omega arith
 
 -- an answer at a place, and nowhere
-pub placed_at : (e : ℕ) (o : Option ℕ) → P.At e ≡ placed o → o ≡ some e
-placed_at e none h = absurd (never (cc))
-placed_at e (some n) h = let p : n ≡ e = cc in ap {B = Option ℕ} some p
+pub answered_some : (e : ℕ) (o : Option ℕ) → Some e ≡ answered o → o ≡ some e
+answered_some e none h = absurd (never (cc))
+answered_some e (some n) h = let p : n ≡ e = cc in ap {B = Option ℕ} some p
 
-pub placed_nowhere : (o : Option ℕ) → P.Nowhere ≡ placed o → o ≡ none
-placed_nowhere none h = refl
-placed_nowhere (some n) h = absurd (never (cc))
+pub answered_none : (o : Option ℕ) → None ≡ answered o → o ≡ none
+answered_none none h = refl
+answered_none (some n) h = absurd (never (cc))
 
 there : {A : Type 0} (o : Option A) → T (present o) → (a : A) × (o ≡ some a)
 there none x = absurd x
@@ -210,7 +212,7 @@ module _ (ws : List ℤ) (at : ℕ) (l : Level) (seen : List Bool) where
 
 -- ---- what a walk over one term shows of the part: it stopped, or came to a place
 module _ {ws : List ℤ} {l : Level} {at : ℕ} {seen seen' : List Bool} where
-  pub part_stops : Stops ws l at 1 seen seen' → PartContract ws at l seen seen' P.Nowhere
+  pub part_stops : Stops ws l at 1 seen seen' → PartContract ws at l seen seen' None
   unfolding part_walk
   part_stops s = part_bad ws at l seen seen' (s.nowhere [])
 
@@ -222,15 +224,33 @@ module _ {ws : List ℤ} {l : Level} {at : ℕ} {seen seen' : List Bool} where
     pub part_fills : Filled ws at e
     part_fills = part_filled ws at l seen seen' e h walked
 
-    pub part_long : 1024 < e - at → PartContract ws at l seen seen' P.Nowhere
+    pub part_long : 1024 < e - at → PartContract ws at l seen seen' None
     part_long m = part_large ws at l seen seen' e walked m
 
     module _ (m : e - at ≤ 1024) where
-      pub part_unmet : NoneMet ws at e → PartContract ws at l seen seen' (P.At e)
+      pub part_unmet : NoneMet ws at e → PartContract ws at l seen seen' (Some e)
       part_unmet n = part_good ws at l seen seen' e walked m (none_read ws at l seen seen' e h walked n)
 
-      pub part_rises : InOrder ws at e true → PartContract ws at l seen seen' (P.At e)
+      pub part_rises : InOrder ws at e true → PartContract ws at l seen seen' (Some e)
       part_rises o = part_good ws at l seen seen' e walked m (order_read ws at l seen seen' e h walked o)
 
-      pub part_falls : InOrder ws at e false → PartContract ws at l seen seen' P.Nowhere
+      pub part_falls : InOrder ws at e false → PartContract ws at l seen seen' None
       part_falls o = part_unordered ws at l seen seen' e walked m (order_unread ws at l seen seen' e h walked o)
+
+      pub part_tested : (b : Bool) → InOrder ws at e b → PartContract ws at l seen seen' (cond b (Some e) None)
+      part_tested true o = part_rises o
+      part_tested false o = part_falls o
+
+-- ---- what is answered of an expression
+module _ {ws : List ℤ} {at : ℕ} {l : Level} {seen seen' : List Bool} where
+  pub walk_ending : {e : ℕ} {met : Bool} → Reaches ws l at 1 seen e 0 seen' → Met ws at e met → Ending ws at e met
+  walk_ending r m =
+      let a = r.later in
+      let b = r.inside in
+      record { later = a; filled = part_fills (omega arith) r; order = m }
+
+pub expression_missed : {mixed : Bool} {ws : List ℤ} {at : ℕ} {seen : List Bool} → (mixed ≡ true → PartContract ws at Expression seen seen None) → ExpressionIs mixed ws at seen None
+expression_missed {mixed} {ws} {at} {seen} f = λ m. answered_none (part_end ws at Expression seen) (f m).answer
+
+pub expression_found : {ws : List ℤ} {at : ℕ} {seen : List Bool} {e : ℕ} → PartContract ws at Expression seen seen (Some e) → part_end ws at Expression seen ≡ some e
+expression_found {ws} {at} {seen} {e} p = answered_some e (part_end ws at Expression seen) p.answer

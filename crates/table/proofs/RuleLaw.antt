@@ -21,15 +21,19 @@ use Rattle.minuska.proofs.SpanLaw.{read_term_iff}
 use Rattle.minuska.proofs.Bridge.PlaceLaw.{stands_of}
 use Rattle.table.specs.Level.{Left, Right}
 use Rattle.table.specs.Node.{unseen}
-use Rattle.table.specs.Number.{natural_of}
+use Rattle.std.specs.Prelude.{Some, None}
+use Rattle.std.specs.Prelude as S
+use Rattle.table.specs.Number.{answered}
 use Rattle.table.specs.Walk.{part_end, part_seen}
-use Rattle.table.specs.Size.{Counts}
+use Rattle.table.specs.Size.{Counts, SidePartContract}
+use Rattle.table.specs.declared.walk.Sized.{Sized}
+use Rattle.table.proofs.KeepLaw.{part_keeps}
 use Rattle.table.specs.Rule.{conditions_end, RuleAt}
 use Rattle.minuska.specs.Bridge.Place.{left_from}
 use Rattle.table.proofs.BasicLaw.{none_after, refused}
-use Rattle.table.proofs.NumberLaw.{below_not, below_yes}
+use Rattle.table.proofs.NumberLaw.{number_is}
 use Rattle.table.proofs.TurnLaw.{two_words}
-use Rattle.table.proofs.PartLaw.{part_found, part_missed}
+use Rattle.table.proofs.PartLaw.{part_found, part_missed, answered_some, answered_none}
 use Rattle.table.proofs.SizeLaw.{counted}
 use Rattle.table.proofs.TestLaw.{Knows, marks, scan_left, knows_left}
 use Rattle.table.proofs.ConditionLaw.{Passed, passed, not_passed, conditions_found, conditions_missed}
@@ -95,43 +99,38 @@ pub rule_short : (ws : List ℤ) (at : ℕ) → length ws < left_from at → rea
 rule_short ws at h = short_rule (drop at ws) (simp length-drop (omega arith))
 
 -- the two numbers of a rule at a place
-pub record Head (ws : List ℤ) (at k : ℕ) : Type 0 where
-  pub action : ℕ
+pub record Head (ws : List ℤ) (at action k : ℕ) : Type 0 where
   pub low : action < 65536
   pub few : k ≤ 8
   pub reads : read_rule (drop at ws) ≡ (read_term (drop (left_from at) ws) >>= left_then action k)
 
-module _ (ws : List ℤ) (at : ℕ) (room : left_from at ≤ length ws) (a k : ℤ) (ea : a ≡ get_or ws at (pos 0)) (ek : k ≡ get_or ws (at + 1) (pos 0)) where
-  words : drop at ws ≡ a ∷ k ∷ drop (left_from at) ws
-  words = two_words ws at room ∙ (ap (λ (x : ℤ). x ∷ get_or ws (at + 1) (pos 0) ∷ drop (left_from at) ws) (sym ea) ∙ ap (λ (x : ℤ). a ∷ x ∷ drop (left_from at) ws) (sym ek))
-
-  pub rule_action : 65535 < natural_of a → read_rule (drop at ws) ≡ none
+module _ (ws : List ℤ) (at : ℕ) (room : left_from at ≤ length ws) where
+  pub rule_action : None ≡ answered (number_below 65536 (get_or ws at (pos 0))) → read_rule (drop at ws) ≡ none
   rule_action h =
-      ap read_rule words ∙ ap (λ (o : Option ℕ). o >>= λ n. number_below 9 k >>= λ m. read_term (drop (left_from at) ws) >>= left_then n m) (below_not 65536 a h)
+      ap read_rule (two_words ws at room) ∙ ap (λ (o : Option ℕ). o >>= λ n. number_below 9 (get_or ws (at + 1) (pos 0)) >>= λ m. read_term (drop (left_from at) ws) >>= left_then n m) (answered_none (number_below 65536 (get_or ws at (pos 0))) h)
 
-  module _ (ha : natural_of a ≤ 65535) where
-    numbers : read_rule (drop at ws) ≡ (number_below 9 k >>= λ m. read_term (drop (left_from at) ws) >>= left_then (natural_of a) m)
-    numbers = ap read_rule words ∙ ap (λ (o : Option ℕ). o >>= λ n. number_below 9 k >>= λ m. read_term (drop (left_from at) ws) >>= left_then n m) (below_yes 65536 a (omega arith) (omega arith))
+  module _ (action : ℕ) (ha : Some action ≡ answered (number_below 65536 (get_or ws at (pos 0)))) where
+    numbers : read_rule (drop at ws) ≡ (number_below 9 (get_or ws (at + 1) (pos 0)) >>= λ m. read_term (drop (left_from at) ws) >>= left_then action m)
+    numbers =
+        ap read_rule (two_words ws at room) ∙
+        ap (λ (o : Option ℕ). o >>= λ n. number_below 9 (get_or ws (at + 1) (pos 0)) >>= λ m. read_term (drop (left_from at) ws) >>= left_then n m) (answered_some action (number_below 65536 (get_or ws at (pos 0))) ha)
 
-    pub rule_count : 8 < natural_of k → read_rule (drop at ws) ≡ none
-    rule_count h = numbers ∙ ap (λ (o : Option ℕ). o >>= λ m. read_term (drop (left_from at) ws) >>= left_then (natural_of a) m) (below_not 9 k h)
+    pub rule_count : None ≡ answered (number_below 9 (get_or ws (at + 1) (pos 0))) → read_rule (drop at ws) ≡ none
+    rule_count h = numbers ∙ ap (λ (o : Option ℕ). o >>= λ m. read_term (drop (left_from at) ws) >>= left_then action m) (answered_none (number_below 9 (get_or ws (at + 1) (pos 0))) h)
 
-    pub rule_head : natural_of k ≤ 8 → Head ws at (natural_of k)
-    rule_head h =
+    pub rule_head : (count : ℕ) → Some count ≡ answered (number_below 9 (get_or ws (at + 1) (pos 0))) → Head ws at action count
+    rule_head count h =
+        let l = (number_is 65536 (get_or ws at (pos 0)) action ha).1 in
+        let f = (number_is 9 (get_or ws (at + 1) (pos 0)) count h).1 in
         record {
-          action = natural_of a;
-          low = omega arith;
-          few = h;
-          reads = numbers ∙ ap (λ (o : Option ℕ). o >>= λ m. read_term (drop (left_from at) ws) >>= left_then (natural_of a) m) (below_yes 9 k (omega arith) (omega arith));
+          low = l;
+          few = omega arith;
+          reads = numbers ∙ ap (λ (o : Option ℕ). o >>= λ m. read_term (drop (left_from at) ws) >>= left_then action m) (answered_some count (number_below 9 (get_or ws (at + 1) (pos 0))) h);
         }
 
 -- ---- its left, its right, its conditions
-module _ (ws : List ℤ) (at k : ℕ) (head : Head ws at k) where
-  n : ℕ
-  n = head.action
-
+module _ (ws : List ℤ) (at n k : ℕ) (head : Head ws at n k) where
   pub rule_left : part_end ws (left_from at) Left unseen ≡ none → read_rule (drop at ws) ≡ none
-  unfolding n
   rule_left h =
       head.reads ∙ none_after (read_term (drop (left_from at) ws)) (left_then n k) (λ l e.
       none_after (read_term l.1) (right_then n k l.0) (λ r f. none_after (read_conditions k r.1) (conditions_then n l.0 r.0) (λ cs g.
@@ -145,7 +144,6 @@ module _ (ws : List ℤ) (at k : ℕ) (head : Head ws at k) where
     the_left = left_found ws (left_from at) right hl
 
     rights : read_rule (drop at ws) ≡ (read_term (drop right ws) >>= right_then n k the_left.term)
-    unfolding n
     rights = head.reads ∙ ap (λ (o : Option (Term × List ℤ)). o >>= left_then n k) the_left.read
 
     pub rule_right : part_end ws right Right (part_seen ws (left_from at) Left unseen) ≡ none → read_rule (drop at ws) ≡ none
@@ -181,8 +179,7 @@ module _ (ws : List ℤ) (at k : ℕ) (head : Head ws at k) where
           let i = length-drop right ws in
           stands_of t (drop conditions ws) (sym e) (omega arith)
 
-      pub rule_good : (end : ℕ) → conditions_end k ws (part_seen ws (left_from at) Left unseen) conditions ≡ some end → (fixed leaves : ℕ) → Counts ws right 1 conditions 0 fixed leaves → RuleAt ws at right conditions end fixed leaves
-      unfolding n
+      pub rule_good : (end : ℕ) → conditions_end k ws (part_seen ws (left_from at) Left unseen) conditions ≡ some end → (fixed leaves : ℕ) → Counts ws right 1 conditions 0 fixed leaves → RuleAt ws at (record { action = n; right = right; conditions = conditions; end = end; fixed = fixed; leaves = leaves })
       rule_good end h fixed leaves sized =
           let l = the_left in
           let r = the_right in
@@ -200,4 +197,42 @@ module _ (ws : List ℤ) (at k : ℕ) (head : Head ws at k) where
           let z : end_from at rule ≡ end = ap (λ (m : ℕ). m + length (conditions_words rule)) b ∙ sym s in
           let y = good_term r.term r.okay in
           let w = counted ws right conditions fixed leaves sized r.term y.in_range right_stands in
-          record { rule = rule; read = e; right_is = a; conditions_is = b; end_is = z; fixed_is = w.0; leaves_is = w.1 }
+          record { rule = rule; read = e; action_is = refl; right_is = a; conditions_is = b; end_is = z; fixed_is = w.0; leaves_is = w.1 }
+
+-- ---- the same, from what each part's walk answered
+module _ (ws : List ℤ) (at : ℕ) (room : left_from at ≤ length ws) (action : ℕ) (ha : Some action ≡ answered (number_below 65536 (get_or ws at (pos 0)))) (count : ℕ) (hc : Some count ≡ answered (number_below 9 (get_or ws (at + 1) (pos 0)))) where
+  head : Head ws at action count
+  head = rule_head ws at room action ha count hc
+
+  pub left_missed : {seen : List Bool} → SidePartContract ws (left_from at) Left unseen seen None → read_rule (drop at ws) ≡ none
+  left_missed l = rule_left ws at action count head (answered_none (part_end ws (left_from at) Left unseen) l.part.answer)
+
+  module _ {left : Sized} {seen : List Bool} (l : SidePartContract ws (left_from at) Left unseen seen (Some left)) where
+    left_at : part_end ws (left_from at) Left unseen ≡ some left.end
+    left_at = answered_some left.end (part_end ws (left_from at) Left unseen) l.part.answer
+
+    by_flags : (r : S.Option ℕ) → r ≡ answered (part_end ws left.end Right seen) → r ≡ answered (part_end ws left.end Right (part_seen ws (left_from at) Left unseen))
+    by_flags r e = e ∙ ap (λ (s : List Bool). answered (part_end ws left.end Right s)) l.part.leaves
+
+    pub right_missed : {seen' : List Bool} → SidePartContract ws left.end Right seen seen' None → read_rule (drop at ws) ≡ none
+    right_missed r = rule_right ws at action count head left.end left_at (answered_none (part_end ws left.end Right (part_seen ws (left_from at) Left unseen)) (by_flags None r.part.answer))
+
+    module _ {right : Sized} {seen' : List Bool} (r : SidePartContract ws left.end Right seen seen' (Some right)) where
+      right_at : part_end ws left.end Right (part_seen ws (left_from at) Left unseen) ≡ some right.end
+      right_at = answered_some right.end (part_end ws left.end Right (part_seen ws (left_from at) Left unseen)) (by_flags (Some right.end) r.part.answer)
+
+      kept : seen' ≡ part_seen ws (left_from at) Left unseen
+      kept = r.part.leaves ∙ (part_keeps ws left.end Right seen tt ∙ l.part.leaves)
+
+      conditions_are : (e : S.Option ℕ) → e ≡ answered (conditions_end count ws seen' right.end) → e ≡ answered (conditions_end count ws (part_seen ws (left_from at) Left unseen) right.end)
+      conditions_are e q = q ∙ ap (λ (s : List Bool). answered (conditions_end count ws s right.end)) kept
+
+      pub conditions_none : None ≡ answered (conditions_end count ws seen' right.end) → read_rule (drop at ws) ≡ none
+      conditions_none q =
+          rule_conditions ws at action count head left.end left_at right.end right_at
+          (answered_none (conditions_end count ws (part_seen ws (left_from at) Left unseen) right.end) (conditions_are None q))
+
+      pub rule_found : (end : ℕ) → Some end ≡ answered (conditions_end count ws seen' right.end) → RuleAt ws at (record { action = action; right = left.end; conditions = right.end; end = end; fixed = right.fixed; leaves = right.leaves })
+      rule_found end q =
+          rule_good ws at action count head left.end left_at right.end right_at end
+          (answered_some end (conditions_end count ws (part_seen ws (left_from at) Left unseen) right.end) (conditions_are (Some end) q)) right.fixed right.leaves (r.sizes right refl)

@@ -9,6 +9,7 @@ use native.Mathlib.Nat.{add-zero}
 use lib.Dec.{T}
 use lib.IntN.{ℤ}
 use lib.ListN.{length, get_or, replicate, length-append}
+use Rattle.std.specs.Prelude.{Some}
 use Rattle.minuska.specs.Basics.{◌>>=◌, provided}
 use Rattle.minuska.specs.Bridge.Shape.{shapely}
 use Rattle.minuska.specs.Term.{Label, Forest, nil, node, term_count}
@@ -49,13 +50,13 @@ scan l (node a cs ss) seen = provided (passes l (kind a) seen) (flagged l (kind 
 
 -- ---- a node's own words
 module _ (l : Level) (seen : List Bool) where
-  admit_as : (r : Kind) (t d : ℤ) (k : ℕ) → NodeIs (role_of r) t d k → admit_node l seen (node_as r k) ≡ cond (passes l r seen) (B.Are (below l r) k) B.Bad
+  admit_as : (r : Kind) (t d : ℤ) (k : ℕ) → NodeIs (role_of r) t d k → admit_node l seen (Some (node_as r k)) ≡ cond (passes l r seen) (B.Are (below l r) k) B.Bad
   admit_as (a_variable v) t d k n = ap (λ (m : ℕ). cond (takes_variable l (get_or seen v false)) (B.Are l m) B.Bad) (sym n.childless)
   admit_as (a_call c) t d k n = refl
   admit_as plain t d k n = refl
   admit_as literal t d k n = refl
 
-  flag_as : (r : Kind) (k : ℕ) → flag_node l seen (node_as r k) ≡ flagged l r seen
+  flag_as : (r : Kind) (k : ℕ) → flag_node l seen (Some (node_as r k)) ≡ flagged l r seen
   flag_as (a_variable v) k = refl
   flag_as (a_call c) k = refl
   flag_as plain k = refl

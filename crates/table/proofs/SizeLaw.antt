@@ -21,9 +21,9 @@ use Rattle.minuska.proofs.Bridge.AppendedLaw.{appended_count, appended_ok}
 use Rattle.minuska.proofs.Bridge.PlaceLaw.{stands_first, stands_second, stands_head, stands_word, stands_then}
 use Rattle.minuska.proofs.Bridge.ShapeLaw.{ok_shapely}
 use Rattle.minuska.proofs.Bridge.SizeLaw.{variable_sizes, call_sizes, plain_sizes, literal_sizes}
-use Rattle.term.specs.declared.Place.TheVariants as P
+use Rattle.std.specs.Prelude.{Some, None}
 use Rattle.table.specs.declared.node.Node.TheVariants as N
-use Rattle.table.specs.declared.side.Sized.TheVariants as S
+use Rattle.table.specs.declared.walk.Sized.{Sized}
 use Rattle.table.specs.Level.{Level, Expression, Ground}
 use Rattle.table.specs.Node.{Kind, a_variable, a_call, plain, literal, kind, node_as, node_in, node_of, NodeAt}
 use Rattle.table.specs.Walk.{walk, PartContract}
@@ -84,7 +84,7 @@ walk_ends ws l at e seen seen' f x s r =
 -- ---- one turn: the node at a place is the first of whatever terms stand there
 module _ {ws : List ℤ} {i : ℕ} where
   module _ (l : Label) (cs ss : Forest) (x : T (ok (node l cs ss))) (s : Stands ws i (encode (node l cs ss))) where
-    as_read : node_of (get_or ws i (pos 0)) (get_or ws (i + 1) (pos 0)) ≡ node_as (kind l) (term_count cs)
+    as_read : node_of (get_or ws i (pos 0)) (get_or ws (i + 1) (pos 0)) ≡ Some (node_as (kind l) (term_count cs))
     unfolding node_of
     as_read =
         ap₂ node_of (stands_head s (pos 0)) (stands_word s 1 (pos 0) (omega arith)) ∙
@@ -102,7 +102,7 @@ module _ {ws : List ℤ} {i : ℕ} where
     plain_remains nil more x c s = absurd (let z : ⊥ = omega arith in z)
     plain_remains (node l cs ss) more x c s = pick (kind l) refl (h.is ∙ as_read l cs ss x s)
       where
-        pick : (r : Kind) → kind l ≡ r → N.Plain k ≡ node_as r (term_count cs) → Remains ws (node l cs ss) (i + 2) (k + more) 1 0
+        pick : (r : Kind) → kind l ≡ r → Some (N.Plain k) ≡ Some (node_as r (term_count cs)) → Remains ws (node l cs ss) (i + 2) (k + more) 1 0
         pick (a_variable v) q y = absurd (never (cc))
         pick (a_call j) q y = absurd (never (cc))
         pick literal q y = absurd (never (cc))
@@ -129,7 +129,7 @@ module _ {ws : List ℤ} {i : ℕ} where
     call_remains nil more x c s = absurd (let z : ⊥ = omega arith in z)
     call_remains (node l cs ss) more x c s = pick (kind l) refl (h.is ∙ as_read l cs ss x s)
       where
-        pick : (r : Kind) → kind l ≡ r → N.Call k code ≡ node_as r (term_count cs) → Remains ws (node l cs ss) e (0 + more) (fixed_call code) (leaves_call code)
+        pick : (r : Kind) → kind l ≡ r → Some (N.Call k code) ≡ Some (node_as r (term_count cs)) → Remains ws (node l cs ss) e (0 + more) (fixed_call code) (leaves_call code)
         pick (a_variable v) q y = absurd (never (cc))
         pick plain q y = absurd (never (cc))
         pick literal q y = absurd (never (cc))
@@ -150,7 +150,7 @@ module _ {ws : List ℤ} {i : ℕ} where
     literal_remains nil more x c s = absurd (let z : ⊥ = omega arith in z)
     literal_remains (node l cs ss) more x c s = pick (kind l) refl (h.is ∙ as_read l cs ss x s)
       where
-        pick : (r : Kind) → kind l ≡ r → N.Literal k ≡ node_as r (term_count cs) → Remains ws (node l cs ss) e (0 + more) ((e - i) / 2) 0
+        pick : (r : Kind) → kind l ≡ r → Some (N.Literal k) ≡ Some (node_as r (term_count cs)) → Remains ws (node l cs ss) e (0 + more) ((e - i) / 2) 0
         pick (a_variable v) q y = absurd (never (cc))
         pick (a_call j) q y = absurd (never (cc))
         pick plain q y = absurd (never (cc))
@@ -180,7 +180,7 @@ module _ {ws : List ℤ} {i : ℕ} where
     variable_remains nil more x c s = absurd (let z : ⊥ = omega arith in z)
     variable_remains (node l cs ss) more x c s = pick (kind l) refl (node_kind l (term_count cs) (head_okay l cs (okay l cs ss x).allowed)) (h.is ∙ as_read l cs ss x s)
       where
-        pick : (r : Kind) → kind l ≡ r → NodeIs (role_of r) (tag_word l (term_count cs)) (datum_word l) (term_count cs) → N.Variable v ≡ node_as r (term_count cs) → Remains ws (node l cs ss) (i + 2) (0 + more) 0 1
+        pick : (r : Kind) → kind l ≡ r → NodeIs (role_of r) (tag_word l (term_count cs)) (datum_word l) (term_count cs) → Some (N.Variable v) ≡ Some (node_as r (term_count cs)) → Remains ws (node l cs ss) (i + 2) (0 + more) 0 1
         pick (a_call j) q m y = absurd (never (cc))
         pick plain q m y = absurd (never (cc))
         pick literal q m y = absurd (never (cc))
@@ -195,15 +195,8 @@ module _ {ws : List ℤ} {i : ℕ} where
 
 -- ---- what is answered of a side
 module _ {ws : List ℤ} {at : ℕ} {l : Level} {seen seen' : List Bool} where
-  pub no_side : PartContract ws at l seen seen' P.Nowhere → SidePartContract ws at l seen seen' S.Nowhere
-  no_side p = record { part = p; sizes = λ e fixed leaves q. absurd (never (cc)) }
+  pub no_side : PartContract ws at l seen seen' None → SidePartContract ws at l seen seen' None
+  no_side p = record { part = p; sizes = λ s q. absurd (never (cc)) }
 
-  pub a_side : {e fixed leaves : ℕ} → PartContract ws at l seen seen' (P.At e) → Counts ws at 1 e 0 fixed leaves → SidePartContract ws at l seen seen' (S.At e fixed leaves)
-  a_side {e} {fixed} {leaves} p c = record { part = p; sizes = λ e' fixed' leaves' q. subst₃ q }
-    where
-      subst₃ : {e' fixed' leaves' : ℕ} → S.At e fixed leaves ≡ S.At e' fixed' leaves' → Counts ws at 1 e' 0 fixed' leaves'
-      subst₃ {e'} {fixed'} {leaves'} q =
-          let a : e ≡ e' = cc in
-          let b : fixed ≡ fixed' = cc in
-          let d : leaves ≡ leaves' = cc in
-          rw (sym a, sym b, sym d) c
+  pub a_side : (s : Sized) → PartContract ws at l seen seen' (Some s.end) → Counts ws at 1 s.end 0 s.fixed s.leaves → SidePartContract ws at l seen seen' (Some s)
+  a_side s p c = record { part = p; sizes = λ s' q. let e : s ≡ s' = cc in subst (λ (x : Sized). Counts ws at 1 x.end 0 x.fixed x.leaves) e c }

@@ -9,11 +9,12 @@ use lib.IntN.{ℤ, pos}
 use lib.ListN.{length, drop, get_or, length-drop}
 use lib.Seq.{drop-cons}
 use borrow.Author.Tests.{le-leb, lt-leb}
+use Rattle.std.specs.Prelude.{Some, None}
 use Rattle.minuska.specs.Basics.{provided, present}
 use Rattle.minuska.specs.Computed.Read.{read_term}
-use Rattle.term.specs.declared.Place.TheVariants as P
 use Rattle.table.specs.Level.{Level}
-use Rattle.table.specs.Walk.{Walked, walk, within, in_order, placed, part_walk, PartContract}
+use Rattle.table.specs.Walk.{Walked, walk, within, in_order, part_walk, PartContract}
+use Rattle.table.specs.Number.{answered}
 
 -- ---- the words at a place
 pub two_words : (s : List ℤ) (i : ℕ) → i + 2 ≤ length s → drop i s ≡ get_or s i (pos 0) ∷ get_or s (i + 1) (pos 0) ∷ drop (i + 2) s
@@ -34,26 +35,26 @@ walk_done (t ∷ d ∷ ws) at seen = refl
 
 -- ---- what is answered of a term
 module _ (ws : List ℤ) (at : ℕ) (kind : Level) (seen seen' : List Bool) where
-  ends : (o : Option ℕ) → part_walk ws at kind seen ≡ record { end = o; seen = seen' } → PartContract ws at kind seen seen' (placed (in_order ws at (within at o)))
-  ends o e = record { answer = sym (ap (λ (w : Walked). placed (in_order ws at (within at w.end))) e); leaves = sym (ap (λ (w : Walked). w.seen) e) }
+  ends : (o : Option ℕ) → part_walk ws at kind seen ≡ record { end = o; seen = seen' } → PartContract ws at kind seen seen' (answered (in_order ws at (within at o)))
+  ends o e = record { answer = sym (ap (λ (w : Walked). answered (in_order ws at (within at w.end))) e); leaves = sym (ap (λ (w : Walked). w.seen) e) }
 
-  pub part_bad : part_walk ws at kind seen ≡ record { end = none; seen = seen' } → PartContract ws at kind seen seen' P.Nowhere
+  pub part_bad : part_walk ws at kind seen ≡ record { end = none; seen = seen' } → PartContract ws at kind seen seen' None
   part_bad e = ends none e
 
   module _ (e : ℕ) (q : part_walk ws at kind seen ≡ record { end = some e; seen = seen' }) where
-    pub part_large : 1024 < e - at → PartContract ws at kind seen seen' P.Nowhere
-    part_large h = subst (λ (b : Bool). PartContract ws at kind seen seen' (placed (in_order ws at (provided b e)))) (lt-leb (e - at) 1024 h) (ends (some e) q)
+    pub part_large : 1024 < e - at → PartContract ws at kind seen seen' None
+    part_large h = subst (λ (b : Bool). PartContract ws at kind seen seen' (answered (in_order ws at (provided b e)))) (lt-leb (e - at) 1024 h) (ends (some e) q)
 
     module _ (h : e - at ≤ 1024) where
-      short : PartContract ws at kind seen seen' (placed (provided (present (read_term (drop at ws))) e))
-      short = subst (λ (b : Bool). PartContract ws at kind seen seen' (placed (in_order ws at (provided b e)))) (le-leb (e - at) 1024 h) (ends (some e) q)
+      short : PartContract ws at kind seen seen' (answered (provided (present (read_term (drop at ws))) e))
+      short = subst (λ (b : Bool). PartContract ws at kind seen seen' (answered (in_order ws at (provided b e)))) (le-leb (e - at) 1024 h) (ends (some e) q)
 
-      pub part_good : present (read_term (drop at ws)) ≡ true → PartContract ws at kind seen seen' (P.At e)
-      part_good p = subst (λ (b : Bool). PartContract ws at kind seen seen' (placed (provided b e))) p short
+      pub part_good : present (read_term (drop at ws)) ≡ true → PartContract ws at kind seen seen' (Some e)
+      part_good p = subst (λ (b : Bool). PartContract ws at kind seen seen' (answered (provided b e))) p short
 
-      pub part_unordered : present (read_term (drop at ws)) ≡ false → PartContract ws at kind seen seen' P.Nowhere
-      part_unordered p = subst (λ (b : Bool). PartContract ws at kind seen seen' (placed (provided b e))) p short
+      pub part_unordered : present (read_term (drop at ws)) ≡ false → PartContract ws at kind seen seen' None
+      part_unordered p = subst (λ (b : Bool). PartContract ws at kind seen seen' (answered (provided b e))) p short
 
-pub part_outside : (ws : List ℤ) (at : ℕ) (kind : Level) (seen : List Bool) → length ws < at → PartContract ws at kind seen seen P.Nowhere
+pub part_outside : (ws : List ℤ) (at : ℕ) (kind : Level) (seen : List Bool) → length ws < at → PartContract ws at kind seen seen None
 unfolding part_walk
 part_outside ws at kind seen h = part_bad ws at kind seen seen (walk_short (drop at ws) at kind [] seen (simp length-drop (omega arith)))

@@ -1,11 +1,11 @@
 pub mod Number
 pub mod Level
 pub mod Below
-pub mod Checked
 pub mod Node
 pub mod Walk
 pub mod Reach
 pub mod Size
 pub mod Rule
-pub mod Plain
+pub mod Part
 pub mod Index
+pub mod Checked

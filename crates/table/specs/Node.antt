@@ -1,9 +1,10 @@
 -- One node of a table's terms: what its two words are, what may stand at a level, and the level of its children.
-use Rattle.std.specs.Prelude.{◌≡◌, Bool, true, false, cond, List, ℕ, ◌+◌, ◌≤◌, ◌<◌, ℤ, pos, length, get_or, set, replicate}
-use Rattle.std.proofs.Math.Option.{Option, none, some}
+use Rattle.std.specs.Prelude.{◌≡◌, Bool, true, false, cond, List, ℕ, ◌+◌, ◌≤◌, ◌<◌, ℤ, pos, length, get_or, set, replicate, Option, Some, None}
+use Rattle.std.proofs.Math.Option as M
+use Rattle.std.proofs.Math.Option.{none, some}
 use Rattle.minuska.specs.Term.{Label, error, truth, whole, variable, call, symbol, dictionary}
 use Rattle.minuska.specs.Rule.{in_expression}
-use Rattle.minuska.specs.Computed.Read.{read_node, dictionary_tag}
+use Rattle.minuska.specs.Computed.Read.{read_node}
 use Rattle.minuska.specs.Function.{functions}
 use Rattle.minuska.specs.Word.{variables}
 use Rattle.table.specs.Level.{Level, Left, Right, Expression, Ground}
@@ -35,38 +36,52 @@ node_as (a_call c) k = N.Call k c
 node_as plain k = N.Plain k
 node_as literal k = N.Literal k
 
-abbrev pub node_in : Option (Label × ℕ) → Node
-node_in none = N.Bad
-node_in (some n) = node_as (kind n.0) n.1
+abbrev pub node_in : M.Option (Label × ℕ) → Option Node
+node_in none = None
+node_in (some n) = Some (node_as (kind n.0) n.1)
 
-unfoldable pub node_of : ℤ → ℤ → Node
+unfoldable pub node_of : ℤ → ℤ → Option Node
 node_of t d = node_in (read_node t d)
 
--- What two words are; nothing is said of a dictionary, nor of a call of a function unless its code is below a number.
-pub record Unknown (codes : ℕ) (t d : ℤ) : Type 0 where
-  pub none : length functions ≤ codes → (t ≡ pos dictionary_tag → ⊥) → N.Bad ≡ node_of t d
+-- The functions whose codes are below have one node for a value, and take no dictionary.
+abbrev pub plain_functions : ℕ
+plain_functions = 15
 
-abbrev pub Known : ℕ → ℤ → ℤ → Node → Type 0
-Known codes t d (N.Plain k) = N.Plain k ≡ node_of t d
-Known codes t d (N.Call k c) = (N.Call k c ≡ node_of t d) × (c < codes)
-Known codes t d (N.Variable v) = N.Variable v ≡ node_of t d
-Known codes t d (N.Literal k) = N.Literal k ≡ node_of t d
-Known codes t d N.Bad = Unknown codes t d
+-- how many functions a walk knows that knows dictionaries or none
+abbrev pub known_functions : Bool → ℕ
+known_functions mixed = cond mixed (length functions) plain_functions
+
+-- No dictionary, and no call of a function on one.
+abbrev pub Simple : Node → Type 0
+Simple (N.Plain k) = Unit {0}
+Simple (N.Call k c) = c < plain_functions
+Simple (N.Variable v) = Unit {0}
+Simple (N.Literal k) = ⊥
+
+-- What two words are. If dictionaries are not known, such a node is found, and where none is, nothing is said.
+abbrev pub Known : Bool → ℤ → ℤ → Option Node → Type 0
+Known mixed t d (Some n) = (Some n ≡ node_of t d) × (mixed ≡ false → Simple n)
+Known mixed t d None = mixed ≡ true → None ≡ node_of t d
 
 -- This node stands at a place; none in range does.
 pub record NodeAt (ws : List ℤ) (i : ℕ) (n : Node) : Type 0 where
   pub room : i + 2 ≤ length ws
-  pub is : n ≡ node_of (get_or ws i (pos 0)) (get_or ws (i + 1) (pos 0))
+  pub is : Some n ≡ node_of (get_or ws i (pos 0)) (get_or ws (i + 1) (pos 0))
 
 pub record NoneAt (ws : List ℤ) (i : ℕ) : Type 0 where
-  pub none : i + 2 ≤ length ws → N.Bad ≡ node_of (get_or ws i (pos 0)) (get_or ws (i + 1) (pos 0))
+  pub none : i + 2 ≤ length ws → None ≡ node_of (get_or ws i (pos 0)) (get_or ws (i + 1) (pos 0))
 
-abbrev pub FoundAt : List ℤ → ℕ → Node → Type 0
-FoundAt ws i (N.Plain k) = NodeAt ws i (N.Plain k)
-FoundAt ws i (N.Call k c) = NodeAt ws i (N.Call k c)
-FoundAt ws i (N.Variable v) = NodeAt ws i (N.Variable v)
-FoundAt ws i (N.Literal k) = NodeAt ws i (N.Literal k)
-FoundAt ws i N.Bad = NoneAt ws i
+-- What is found at a place.
+pub record KnownAt (mixed : Bool) (ws : List ℤ) (i : ℕ) (n : Node) : Type 0 where
+  pub node : NodeAt ws i n
+  pub simple : mixed ≡ false → Simple n
+
+pub record UnknownAt (mixed : Bool) (ws : List ℤ) (i : ℕ) : Type 0 where
+  pub none : mixed ≡ true → NoneAt ws i
+
+abbrev pub FoundAt : Bool → List ℤ → ℕ → Option Node → Type 0
+FoundAt mixed ws i (Some n) = KnownAt mixed ws i n
+FoundAt mixed ws i None = UnknownAt mixed ws i
 
 -- "A left has no call." An expression is no update.
 abbrev pub takes_call : Level → ℕ → Bool
@@ -109,19 +124,19 @@ pub record TakesVariable (level : Level) (v : ℕ) (seen seen' : List Bool) (r :
   pub leaves : seen' ≡ flags level v seen
 
 -- A node at a level: the level and the number of its children, if it may stand there; the flags afterwards.
-abbrev pub admit_node : Level → List Bool → Node → Below
-admit_node l seen (N.Plain k) = B.Are (under_plain l) k
-admit_node l seen (N.Literal k) = B.Are Ground k
-admit_node l seen (N.Call k c) = cond (takes_call l c) (B.Are Expression k) B.Bad
-admit_node l seen (N.Variable v) = cond (takes_variable l (get_or seen v false)) (B.Are l 0) B.Bad
-admit_node l seen N.Bad = B.Bad
+abbrev pub admit_node : Level → List Bool → Option Node → Below
+admit_node l seen (Some (N.Plain k)) = B.Are (under_plain l) k
+admit_node l seen (Some (N.Literal k)) = B.Are Ground k
+admit_node l seen (Some (N.Call k c)) = cond (takes_call l c) (B.Are Expression k) B.Bad
+admit_node l seen (Some (N.Variable v)) = cond (takes_variable l (get_or seen v false)) (B.Are l 0) B.Bad
+admit_node l seen None = B.Bad
 
-abbrev pub flag_node : Level → List Bool → Node → List Bool
-flag_node l seen (N.Plain k) = seen
-flag_node l seen (N.Literal k) = seen
-flag_node l seen (N.Call k c) = seen
-flag_node l seen (N.Variable v) = flags l v seen
-flag_node l seen N.Bad = seen
+abbrev pub flag_node : Level → List Bool → Option Node → List Bool
+flag_node l seen (Some (N.Plain k)) = seen
+flag_node l seen (Some (N.Literal k)) = seen
+flag_node l seen (Some (N.Call k c)) = seen
+flag_node l seen (Some (N.Variable v)) = flags l v seen
+flag_node l seen None = seen
 
 unfoldable pub admitted : Level → ℤ → ℤ → List Bool → Below
 admitted l t d seen = admit_node l seen (node_of t d)

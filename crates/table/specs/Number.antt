@@ -1,6 +1,8 @@
--- A word as a number; one below 0 becomes a number out of every range.
-use Rattle.std.specs.Prelude.{ℕ, ◌^◌, ℤ, pos, negsuc}
+-- A partial value, as code answers it.
+use Rattle.std.specs.Prelude.{Option, Some, None}
+use Rattle.std.proofs.Math.Option as M
+use Rattle.std.proofs.Math.Option.{none, some}
 
-abbrev pub natural_of : ℤ → ℕ
-natural_of (pos n) = n
-natural_of (negsuc n) = 2 ^ 63
+abbrev pub answered : {A : Type 0} → M.Option A → Option A
+answered none = None
+answered (some a) = Some a

@@ -1,20 +1,15 @@
 -- The sizes of the terms that a side's walk has passed over, whatever trees stand there: what its turn, its loop and a side of a rule answer.
-use Rattle.std.specs.Prelude.{◌≡◌, Bool, List, ℕ, ◌+◌, ◌-◌, ◌*◌, ◌≤◌, ℤ, T}
+use Rattle.std.specs.Prelude.{◌≡◌, Bool, false, List, ℕ, ◌+◌, ◌-◌, ◌*◌, ◌≤◌, ℤ, T, Option, Some, None}
 use Rattle.minuska.specs.Term.{Forest, term_count}
 use Rattle.minuska.specs.Word.{ok, encode}
 use Rattle.minuska.specs.Bridge.Place.{Stands}
 use Rattle.minuska.specs.Bridge.Walk.{fixed_nodes, variable_nodes}
-use Rattle.term.specs.declared.Place.{Place}
-use Rattle.term.specs.declared.Place.TheVariants as P
 use Rattle.table.specs.Level.{Level}
 use Rattle.table.specs.declared.side.SideTurn.{SideTurn}
-use Rattle.table.specs.declared.side.SideTurn.TheVariants as U
 use Rattle.table.specs.declared.side.SideEnd.{SideEnd}
-use Rattle.table.specs.declared.side.SideEnd.TheVariants as E
-use Rattle.table.specs.declared.side.Sized.{Sized}
-use Rattle.table.specs.declared.side.Sized.TheVariants as S
+use Rattle.table.specs.declared.walk.Sized.{Sized}
 use Rattle.table.specs.Walk.{PartContract}
-use Rattle.table.specs.Reach.{Reaches, Stops, TurnOn, Met}
+use Rattle.table.specs.Reach.{Reaches, Missed, TurnOn, Met}
 
 -- What is left of some terms: k terms that stand at a place. All before them has these sizes.
 pub record Remains (ws : List ℤ) (f : Forest) (e k fixed leaves : ℕ) : Type 0 where
@@ -30,36 +25,38 @@ pub record Remains (ws : List ℤ) (f : Forest) (e k fixed leaves : ℕ) : Type 
 pub record Counts (ws : List ℤ) (at n e k fixed leaves : ℕ) : Type 0 where
   pub remains : (f : Forest) (more : ℕ) → T (ok f) → term_count f ≡ n + more → Stands ws at (encode f) → Remains ws f e (k + more) fixed leaves
 
--- What one turn answers: how far it comes, and the sizes of what it took, which are few by its words.
-pub record SideTurnOn (ws : List ℤ) (l : Level) (i : ℕ) (seen seen' : List Bool) (e m fixed leaves : ℕ) (met : Bool) : Type 0 where
+-- What one turn answers: how far it comes, and the sizes of what it took, which are few by its words. A walk that knows no dictionary meets none.
+pub record SideTurnOn (mixed : Bool) (ws : List ℤ) (l : Level) (i : ℕ) (seen seen' : List Bool) (e m fixed leaves : ℕ) (met : Bool) : Type 0 where
   pub turn : TurnOn ws l i seen seen' e m
   pub small : fixed + leaves ≤ 2 * (e - i)
   pub counts : Counts ws i 1 e m fixed leaves
   pub order : Met ws i e met
+  pub unmet : mixed ≡ false → met ≡ false
 
-abbrev pub SideTurnIs : List ℤ → Level → ℕ → List Bool → List Bool → SideTurn → Type 0
-SideTurnIs ws l i seen seen' (U.On e m fixed leaves met) = SideTurnOn ws l i seen seen' e m fixed leaves met
-SideTurnIs ws l i seen seen' U.Bad = Stops ws l i 1 seen seen'
+abbrev pub SideTurnIs : Bool → List ℤ → Level → ℕ → List Bool → List Bool → Option SideTurn → Type 0
+SideTurnIs mixed ws l i seen seen' (Some t) = SideTurnOn mixed ws l i seen seen' t.end t.more t.fixed t.leaves t.met
+SideTurnIs mixed ws l i seen seen' None = Missed mixed ws l i 1 seen seen'
 
 -- What is answered of a dictionary, whatever the level.
-pub record LiteralTurnIs (ws : List ℤ) (i : ℕ) (r : SideTurn) : Type 0 where
-  pub at : (l : Level) (seen : List Bool) → SideTurnIs ws l i seen seen r
+pub record LiteralTurnIs (mixed : Bool) (ws : List ℤ) (i : ℕ) (r : Option SideTurn) : Type 0 where
+  pub at : (l : Level) (seen : List Bool) → SideTurnIs mixed ws l i seen seen r
 
 -- What the loop answers: the place behind the side, its sizes, and whether a dictionary was met.
-pub record SideEnds (ws : List ℤ) (l : Level) (at : ℕ) (seen seen' : List Bool) (e fixed leaves : ℕ) (met : Bool) : Type 0 where
+pub record SideEnds (mixed : Bool) (ws : List ℤ) (l : Level) (at : ℕ) (seen seen' : List Bool) (e fixed leaves : ℕ) (met : Bool) : Type 0 where
   pub reaches : Reaches ws l at 1 seen e 0 seen'
   pub counts : Counts ws at 1 e 0 fixed leaves
   pub order : Met ws at e met
+  pub unmet : mixed ≡ false → met ≡ false
 
-abbrev pub SideIs : List ℤ → Level → ℕ → List Bool → List Bool → SideEnd → Type 0
-SideIs ws l at seen seen' (E.At e fixed leaves met) = SideEnds ws l at seen seen' e fixed leaves met
-SideIs ws l at seen seen' E.Nowhere = Stops ws l at 1 seen seen'
+abbrev pub SideIs : Bool → List ℤ → Level → ℕ → List Bool → List Bool → Option SideEnd → Type 0
+SideIs mixed ws l at seen seen' (Some t) = SideEnds mixed ws l at seen seen' t.end t.fixed t.leaves t.met
+SideIs mixed ws l at seen seen' None = Missed mixed ws l at 1 seen seen'
 
 -- What is found at a place where a side should start: the place behind it, and its sizes.
-abbrev pub place_of : Sized → Place
-place_of (S.At e fixed leaves) = P.At e
-place_of S.Nowhere = P.Nowhere
+abbrev pub place_of : Option Sized → Option ℕ
+place_of (Some s) = Some s.end
+place_of None = None
 
-pub record SidePartContract (ws : List ℤ) (at : ℕ) (l : Level) (seen seen' : List Bool) (r : Sized) : Type 0 where
+pub record SidePartContract (ws : List ℤ) (at : ℕ) (l : Level) (seen seen' : List Bool) (r : Option Sized) : Type 0 where
   pub part : PartContract ws at l seen seen' (place_of r)
-  pub sizes : (e fixed leaves : ℕ) → r ≡ S.At e fixed leaves → Counts ws at 1 e 0 fixed leaves
+  pub sizes : (s : Sized) → r ≡ Some s → Counts ws at 1 s.end 0 s.fixed s.leaves

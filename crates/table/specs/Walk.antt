@@ -1,14 +1,14 @@
 -- The walk over a term's words: the levels of the nodes still to come, the first first.
 use Rattle.std.specs.Prelude.{◌≡◌, Bool, List, [], ◌∷◌, ◌++◌, ℕ, ◌+◌, ◌-◌, ℤ, leb, drop, replicate}
+use Rattle.std.specs.Prelude as S
 use Rattle.std.proofs.Math.Option.{Option, none, some}
 use Rattle.minuska.specs.Basics.{◌>>=◌, provided, present}
 use Rattle.minuska.specs.Computed.Read.{read_term}
-use Rattle.term.specs.declared.Place.{Place}
-use Rattle.term.specs.declared.Place.TheVariants as P
 use Rattle.table.specs.Level.{Level}
 use Rattle.table.specs.Below.{Below}
 use Rattle.table.specs.Below as B
 use Rattle.table.specs.Node.{admitted, seen_after}
+use Rattle.table.specs.Number.{answered}
 
 -- the place behind the last node, if all passed; the variables flagged
 pub record Walked : Type 0 where
@@ -32,10 +32,6 @@ walk (t ∷ d ∷ ws) at (l ∷ ls) seen = onward (admitted l t d seen) ls (seen
 abbrev pub within : ℕ → Option ℕ → Option ℕ
 within at o = o >>= λ e. provided (leb (e - at) 1024) e
 
-abbrev pub placed : Option ℕ → Place
-placed none = P.Nowhere
-placed (some e) = P.At e
-
 -- one term of a kind, from a place on: the place behind it, and the flags afterwards
 unfoldable pub part_walk : List ℤ → ℕ → Level → List Bool → Walked
 part_walk ws at kind seen = walk (drop at ws) at (kind ∷ []) seen
@@ -50,6 +46,6 @@ part_end ws at kind seen = in_order ws at (within at (part_walk ws at kind seen)
 abbrev pub part_seen : List ℤ → ℕ → Level → List Bool → List Bool
 part_seen ws at kind seen = (part_walk ws at kind seen).seen
 
-pub record PartContract (ws : List ℤ) (at : ℕ) (kind : Level) (seen seen' : List Bool) (r : Place) : Type 0 where
-  pub answer : r ≡ placed (part_end ws at kind seen)
+pub record PartContract (ws : List ℤ) (at : ℕ) (kind : Level) (seen seen' : List Bool) (r : S.Option ℕ) : Type 0 where
+  pub answer : r ≡ answered (part_end ws at kind seen)
   pub leaves : seen' ≡ part_seen ws at kind seen

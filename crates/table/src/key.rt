@@ -1,21 +1,26 @@
 // Keys of nodes: a rule whose left's root has another key than the configuration's root does not match.
-ghost use Rattle.std.specs.Prelude.{◌≡◌, ◌≤◌};
-ghost use Rattle.minuska.specs.Bridge.Place.{key_of, Indexed, Accepted, Positions, RootKeyIs, SeekIs};
+ghost use Rattle.std.specs.Prelude.{◌≡◌, ◌≤◌, ◌<◌};
+ghost use Rattle.minuska.specs.Bridge.Place.{key_of, remainder, Indexed, Accepted, Positions, RootKeyIs, SeekIs};
 
-use crate::index::{KEY, number};
-use crate::number::natural;
 use minuska::Index;
 
+// What is left of a word by a number; nothing of one below 0.
+fn remainder(word: i64, by: usize) -> usize
+    requires { 0 < by }
+    ensures { result ≡ remainder word by }
+{
+    usize::try_from(word).unwrap_or(0) % by
+}
+
 // The key of a node, by its two words; 0 of a variable.
+#[tactic(auto, using(crate::proofs::KeyLaw::key_variable, crate::proofs::KeyLaw::key_other, crate::proofs::KeyLaw::remainder_small))]
 pub fn key(t: i64, d: i64) -> u16
     ensures { result ≡ key_of t d }
 {
-    let tag = natural(t);
-    if tag == 3 {
+    if t == term::VARIABLE {
         return 0;
     }
-    let datum = natural(d);
-    (4096 * (tag % 16) + datum % 4096) as u16
+    (4096 * remainder(t, 16) + remainder(d, 4096)) as u16
 }
 
 // The key of the configuration's root.
@@ -23,7 +28,7 @@ pub fn root(configuration: &[i64]) -> usize
     requires { Accepted configuration.now }
     ensures { RootKeyIs configuration.now result }
 {
-    key(term::word(configuration, 0), term::word(configuration, 1)) as usize
+    usize::from(key(configuration[0], configuration[1]))
 }
 
 // The first position from one on, up to another, whose rule's left may match a configuration whose root has that key: the left's is a variable, or has it too.
@@ -31,16 +36,11 @@ pub fn seek(table: &[i64], index: &Index, root: usize, from: usize, to: usize) -
     requires { Indexed table.now index.now × Positions table.now to × (from ≤ to) }
     ensures { SeekIs table.now root from to result }
 {
-    let mut i = from;
-    while i < to {
-        let k = number(index, crate::ordered(table, index, i), KEY);
-        if k == root {
+    for i in from..to {
+        let key = usize::from(index[crate::ordered(table, index, i)].key);
+        if key == root || key == 0 {
             return i;
         }
-        if k == 0 {
-            return i;
-        }
-        i += 1;
     }
-    i
+    to
 }

@@ -9,9 +9,6 @@ pub mod key;
 mod node;
 mod number;
 mod part;
-mod plain_expression;
-mod plain_side;
-mod plain_walk;
 mod rule;
 mod side;
 mod walk;
@@ -21,14 +18,14 @@ ghost use Rattle.minuska.specs.Bridge.Place.{Indexed, RuleCountIs, ActionIs, Ord
 ghost use Rattle.table.specs.Index.{IndexTableContract};
 
 use crate::fill::fill;
-use crate::number::natural;
-use minuska::{INDEX_LEN, Index, Refusal};
+use minuska::limits::MAX_RULES;
+use minuska::{Index, Refusal, Row};
 
 // Checks a table.
 pub fn check_table(table: &[i64]) -> Result<(), Refusal>
     ensures { CheckTableContract table.now result }
 {
-    let mut index = [0u16; INDEX_LEN];
+    let mut index = [Row::EMPTY; MAX_RULES];
     index_table(table, &mut index)
 }
 
@@ -36,8 +33,7 @@ pub fn check_table(table: &[i64]) -> Result<(), Refusal>
 pub fn index_table(table: &[i64], index: &mut Index) -> Result<(), Refusal>
     ensures { IndexTableContract table.now index.old index.new result }
 {
-    let ranges = term::ground::RANGES;
-    fill(table, index, &ranges)
+    fill(table, index)
 }
 
 // How many rules a checked table has.
@@ -45,7 +41,7 @@ pub fn rule_count(table: &[i64], index: &Index) -> usize
     requires { Indexed table.now index.now }
     ensures { RuleCountIs table.now result }
 {
-    natural(term::word(table, 0))
+    table[0] as usize
 }
 
 // The action of a checked table's rule; 0 of a number that names none.
@@ -60,6 +56,7 @@ pub fn action(table: &[i64], index: &Index, rule: usize) -> u16
 }
 
 // The rule at a position of the order in which rules are tried.
+#[tactic(auto, using(crate::proofs::IndexLaw::ordered_is))]
 pub fn ordered(table: &[i64], index: &Index, position: usize) -> usize
     requires { Indexed table.now index.now }
     ensures { OrderedIs table.now position result }

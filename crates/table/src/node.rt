@@ -1,15 +1,12 @@
 // One node of a table's terms: what its two words are, and whether a variable may stand where it stands.
-ghost use Rattle.std.specs.Prelude.{◌≡◌, pos, ◌≤◌, ◌<◌, length};
+ghost use Rattle.std.specs.Prelude.{◌≡◌, Option, Bool, pos, ◌≤◌, ◌<◌, length};
 ghost use Rattle.minuska.specs.Computed.Read.{variable_tag, call_tag, dictionary_tag};
-ghost use Rattle.minuska.specs.Function.{functions};
 ghost use Rattle.minuska.specs.Word.{variables};
-ghost use Rattle.term.specs.Datum.{ground_ranges};
-ghost use Rattle.table.specs.Node.{node_of, side_level, Known, FoundAt, TakesVariable};
-ghost use Rattle.table.specs.Plain.{KnownAt};
+ghost use Rattle.table.specs.Node.{known_functions, node_of, side_level, Known, FoundAt, TakesVariable};
 
-use crate::number::natural;
+use crate::number::number_below;
 use term::VARIABLES;
-use term::ground::{Ranges, in_range};
+use term::ground::in_range;
 
 // The functions whose codes are below have one node for a value, and take no dictionary.
 const PLAIN_FUNCTIONS: usize = 15;
@@ -17,110 +14,91 @@ const PLAIN_FUNCTIONS: usize = 15;
 // The most entries of a dictionary.
 const ENTRIES: usize = term::MAX_ENTRIES as usize;
 
-// A node in range, with its child count, a call's code too; a variable's number. A literal is a dictionary: what stands below it is ground.
+// A node in range. A literal is a dictionary: what stands below it is ground.
 #[derive(Clone, Copy)]
 pub enum Node {
-    Plain(usize),
-    Call(usize, usize),
-    Variable(usize),
-    Literal(usize),
-    Bad,
+    Plain { children: usize },
+    Call { children: usize, code: usize },
+    Variable { number: usize },
+    Literal { children: usize },
 }
 
-// What one turn of a walk comes to: the place behind what it took, how many more terms of its level are to come, and whether it met a dictionary.
-#[derive(Clone, Copy)]
-pub enum Turn {
-    On(usize, usize, bool),
-    Bad,
-}
-
-// What a variable's datum is, a call's of a function whose code is below a number, and a dictionary's.
-fn variable(d: i64) -> Node
+// What a variable's datum is, a call's, and a dictionary's.
+#[tactic(auto, using(crate::proofs::NodeLaw::no_variable, crate::proofs::NodeLaw::a_variable_lem))]
+fn variable(d: i64) -> Option<Node>
     ensures { result ≡ node_of (pos variable_tag) d }
 {
-    let v = natural(d);
-    if VARIABLES <= v {
-        return Node::Bad;
-    }
-    Node::Variable(v)
+    let number = number_below(VARIABLES, d)?;
+    Some(Node::Variable { number })
 }
 
-fn call(codes: usize, d: i64) -> Node
-    requires { codes ≤ length functions }
-    ensures { Known codes (pos call_tag) d result }
+// How many functions are known.
+fn functions<const MIXED: bool>() -> usize
+    ensures { result ≡ known_functions MIXED }
 {
-    let c = natural(d);
-    if codes <= c {
-        return Node::Bad;
+    if MIXED {
+        term::FUNCTIONS
+    } else {
+        PLAIN_FUNCTIONS
     }
-    Node::Call(term::children(term::CALL, d), c)
 }
 
-fn dictionary(d: i64) -> Node
+fn call<const MIXED: bool>(d: i64) -> Option<Node>
+    ensures { Known MIXED (pos call_tag) d result }
+{
+    let code = number_below(functions::<MIXED>(), d)?;
+    let children = term::children(term::CALL, d);
+    Some(Node::Call { children, code })
+}
+
+#[tactic(auto, using(crate::proofs::NodeLaw::no_dictionary, crate::proofs::NodeLaw::a_dictionary))]
+fn dictionary(d: i64) -> Option<Node>
     ensures { result ≡ node_of (pos dictionary_tag) d }
 {
-    let n = natural(d);
-    if ENTRIES < n {
-        return Node::Bad;
-    }
-    Node::Literal(2 * n)
+    let entries = number_below(ENTRIES + 1, d)?;
+    Some(Node::Literal {
+        children: 2 * entries,
+    })
 }
 
-// What two words are, if they are no dictionary and no call of a function with another code.
-fn classify(ranges: &Ranges, codes: usize, t: i64, d: i64) -> Node
-    requires { (ranges.now ≡ ground_ranges) × (codes ≤ length functions) }
-    ensures { Known codes t d result }
+// What two words are. Unless `MIXED`, dictionaries and calls of functions on them are not known.
+#[tactic(auto, using(crate::proofs::NodeLaw::known))]
+fn classify<const MIXED: bool>(t: i64, d: i64) -> Option<Node>
+    ensures { Known MIXED t d result }
 {
+    if MIXED && t == term::DICTIONARY {
+        return dictionary(d);
+    }
     if t == term::VARIABLE {
         return variable(d);
     }
     if t == term::CALL {
-        return call(codes, d);
+        return call::<MIXED>(d);
     }
-    if in_range(ranges, t, d) {
-        return Node::Plain(term::tag_children(t));
+    if !in_range(t, d) {
+        return None;
     }
-    Node::Bad
+    let children = term::tag_children(t);
+    Some(Node::Plain { children })
 }
 
-// The node at a place; `Bad` too where two words are not left.
-pub fn node_at(table: &[i64], i: usize, ranges: &Ranges) -> Node
-    requires { (i ≤ length table.now) × (ranges.now ≡ ground_ranges) }
-    ensures { FoundAt table.now i result }
+// The node at a place; none where two words are not left.
+pub fn node_at<const MIXED: bool>(table: &[i64], i: usize) -> Option<Node>
+    requires { i ≤ length table.now }
+    ensures { FoundAt MIXED table.now i result }
 {
     if table.len() - i < 2 {
-        return Node::Bad;
+        return None;
     }
-    let t = term::word(table, i);
-    let d = term::word(table, i + 1);
-    if t == term::DICTIONARY {
-        return dictionary(d);
-    }
-    classify(ranges, term::FUNCTIONS, t, d)
-}
-
-// The same, but of dictionaries and of calls of functions on them nothing is said: a part is looked at first as if it had none.
-pub fn plain_node(table: &[i64], i: usize, ranges: &Ranges) -> Node
-    requires { (i ≤ length table.now) × (ranges.now ≡ ground_ranges) }
-    ensures { KnownAt table.now i result }
-{
-    if table.len() - i < 2 {
-        return Node::Bad;
-    }
-    classify(
-        ranges,
-        PLAIN_FUNCTIONS,
-        term::word(table, i),
-        term::word(table, i + 1),
-    )
+    classify::<MIXED>(table[i], table[i + 1])
 }
 
 // A left's variable is flagged; a right's must have been.
-pub fn takes_variable(left: bool, v: usize, seen: &mut [bool; VARIABLES]) -> bool
+pub fn takes_variable<const LEFT: bool>(v: usize, seen: &mut [bool; VARIABLES]) -> bool
     requires { v < variables }
-    ensures { TakesVariable (side_level left) v seen.old seen.new result }
+    ensures { TakesVariable (side_level LEFT) v seen.old seen.new result }
 {
-    if left {
+    if LEFT {
         seen[v] = true;
         return true;
     }

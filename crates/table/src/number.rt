@@ -1,14 +1,15 @@
 // Words as numbers.
 ghost use Rattle.std.specs.Prelude.{◌≡◌};
-ghost use Rattle.table.specs.Number.{natural_of};
+ghost use Rattle.minuska.specs.Computed.Read.{number_below};
+ghost use Rattle.table.specs.Number.{answered};
 
-// A word below 0 becomes a number out of every range.
-pub fn natural(z: i64) -> usize
-    ensures { result ≡ natural_of z }
+// A word as a number below a bound.
+pub fn number_below(bound: usize, word: i64) -> Option<usize>
+    ensures { result ≡ answered (number_below bound word) }
 {
-    if z < 0 {
-        0x8000_0000_0000_0000
-    } else {
-        z as usize
+    // (b) not `usize::try_from`: a check of a table takes 3 % more instructions
+    if word < 0 || bound <= word as usize {
+        return None;
     }
+    Some(word as usize)
 }

@@ -1,133 +1,138 @@
 // A rule's left and right: symbols over symbols, dictionaries, variables and, in a right, calls.
 ghost use Rattle.std.specs.Prelude.{◌≡◌, ◌≤◌, length};
-ghost use Rattle.term.specs.Datum.{ground_ranges};
 ghost use Rattle.minuska.specs.Bridge.Walk.{fixed_call, leaves_call};
 ghost use Rattle.table.specs.Level.{Right};
-ghost use Rattle.table.specs.Node.{side_level, NodeAt};
+ghost use Rattle.table.specs.Node.{side_level, KnownAt};
 ghost use Rattle.table.specs.Size.{LiteralTurnIs, SideTurnIs, SideIs};
 ghost use Rattle.table.specs.declared.node.Node.TheVariants as N;
 
-use crate::expression::expressions_end;
+use crate::expression::{expressions_end, ground_end};
 use crate::node::{Node, node_at, takes_variable};
-use term::ground::{Ground, Ranges};
 use term::{LOOKUP, UPDATE, VARIABLES};
 
 // What one turn of a side's walk comes to: the place behind what it took, how many more terms are to come, the sizes of what it took, and whether it met a dictionary.
 #[derive(Clone, Copy)]
-pub enum SideTurn {
-    On(usize, usize, usize, usize, bool),
-    Bad,
+pub struct SideTurn {
+    pub end: usize,
+    pub more: usize,
+    pub fixed: usize,
+    pub leaves: usize,
+    pub met: bool,
 }
 
 // The place behind a side, its sizes, and whether a dictionary is in it.
 #[derive(Clone, Copy)]
-pub enum SideEnd {
-    At(usize, usize, usize, bool),
-    Nowhere,
-}
-
-// The place behind a side, and its sizes: how many nodes it gives for certain, and how many terms of a match.
-#[derive(Clone, Copy)]
-pub enum Sized {
-    At(usize, usize, usize),
-    Nowhere,
+pub struct SideEnd {
+    pub end: usize,
+    pub fixed: usize,
+    pub leaves: usize,
+    pub met: bool,
 }
 
 // The sizes of a call's value: one node; a term of the configuration; a dictionary of one with an entry more.
-fn call_fixed(c: usize) -> usize
-    ensures { result ≡ fixed_call c }
+fn call_fixed(code: usize) -> usize
+    ensures { result ≡ fixed_call code }
 {
-    if c == LOOKUP {
-        return 0;
+    match code {
+        LOOKUP => 0,
+        UPDATE => 2,
+        _ => 1,
     }
-    if c == UPDATE {
-        return 2;
-    }
-    1
 }
 
-fn call_leaves(c: usize) -> usize
-    ensures { result ≡ leaves_call c }
+fn call_leaves(code: usize) -> usize
+    ensures { result ≡ leaves_call code }
 {
-    if c == LOOKUP {
-        return 1;
+    match code {
+        LOOKUP => 1,
+        UPDATE => 2,
+        _ => 0,
     }
-    if c == UPDATE {
-        return 2;
-    }
-    0
 }
 
 // A call of a right with the arguments below it, which are expressions.
-fn call_turn(
+fn call_turn<const MIXED: bool>(
     table: &[i64],
     i: usize,
-    k: usize,
-    c: usize,
+    children: usize,
+    code: usize,
     seen: &[bool; VARIABLES],
-    ranges: &Ranges,
-) -> SideTurn
-    requires { NodeAt table.now i (N.Call k c) × (ranges.now ≡ ground_ranges) }
-    ensures { SideTurnIs table.now Right i seen.now seen.now result }
+) -> Option<SideTurn>
+    requires { KnownAt MIXED table.now i (N.Call children code) }
+    ensures { SideTurnIs MIXED table.now Right i seen.now seen.now result }
 {
-    let Ground::At(e, met) = expressions_end(table, i + 2, k, seen, ranges) else {
-        return SideTurn::Bad;
-    };
-    SideTurn::On(e, 0, call_fixed(c), call_leaves(c), met)
+    let below = expressions_end::<MIXED>(table, i + 2, children, seen)?;
+    Some(SideTurn {
+        end: below.end,
+        more: 0,
+        fixed: call_fixed(code),
+        leaves: call_leaves(code),
+        met: below.met,
+    })
 }
 
 // A dictionary with all that is below it.
-fn literal_turn(table: &[i64], i: usize, k: usize, ranges: &Ranges) -> SideTurn
-    requires { NodeAt table.now i (N.Literal k) × (ranges.now ≡ ground_ranges) }
-    ensures { LiteralTurnIs table.now i result }
+fn literal_turn<const MIXED: bool>(table: &[i64], i: usize, children: usize) -> Option<SideTurn>
+    requires { KnownAt MIXED table.now i (N.Literal children) }
+    ensures { LiteralTurnIs MIXED table.now i result }
 {
-    let Ground::At(e, _) = term::ground::ground_terms(table, i + 2, k, ranges) else {
-        return SideTurn::Bad;
-    };
-    SideTurn::On(e, 0, (e - i) / 2, 0, true)
+    let below = ground_end::<MIXED>(table, i + 2, children)?;
+    Some(SideTurn {
+        end: below.end,
+        more: 0,
+        fixed: (below.end - i) / 2,
+        leaves: 0,
+        met: true,
+    })
 }
 
 // One side's first node, with the arguments below it if it is a call, with its entries if it is a dictionary. A symbol's children are still to come.
-fn side_turn(
-    left: bool,
+fn side_turn<const LEFT: bool, const MIXED: bool>(
     table: &[i64],
     i: usize,
     seen: &mut [bool; VARIABLES],
-    ranges: &Ranges,
-) -> SideTurn
-    requires { (i ≤ length table.now) × (ranges.now ≡ ground_ranges) }
-    ensures { SideTurnIs table.now (side_level left) i seen.old seen.new result }
+) -> Option<SideTurn>
+    requires { i ≤ length table.now }
+    ensures { SideTurnIs MIXED table.now (side_level LEFT) i seen.old seen.new result }
 {
-    match node_at(table, i, ranges) {
-        Node::Plain(k) => SideTurn::On(i + 2, k, 1, 0, false),
-        Node::Literal(k) => literal_turn(table, i, k, ranges),
-        Node::Call(k, c) => {
-            if left {
-                return SideTurn::Bad;
+    match node_at::<MIXED>(table, i)? {
+        Node::Plain { children } => Some(SideTurn {
+            end: i + 2,
+            more: children,
+            fixed: 1,
+            leaves: 0,
+            met: false,
+        }),
+        Node::Literal { children } => literal_turn::<MIXED>(table, i, children),
+        Node::Call { children, code } => {
+            if LEFT {
+                return None;
             }
-            call_turn(table, i, k, c, seen, ranges)
+            call_turn::<MIXED>(table, i, children, code, seen)
         }
-        Node::Variable(v) => {
-            if takes_variable(left, v, seen) {
-                SideTurn::On(i + 2, 0, 0, 1, false)
-            } else {
-                SideTurn::Bad
+        Node::Variable { number } => {
+            if !takes_variable::<LEFT>(number, seen) {
+                return None;
             }
+            Some(SideTurn {
+                end: i + 2,
+                more: 0,
+                fixed: 0,
+                leaves: 1,
+                met: false,
+            })
         }
-        Node::Bad => SideTurn::Bad,
     }
 }
 
 // The place behind the side that starts at a place, its sizes, and whether a dictionary is in it.
-pub fn side_end(
-    left: bool,
+pub fn side_end<const LEFT: bool, const MIXED: bool>(
     table: &[i64],
     at: usize,
     seen: &mut [bool; VARIABLES],
-    ranges: &Ranges,
-) -> SideEnd
-    requires { (at ≤ length table.now) × (ranges.now ≡ ground_ranges) }
-    ensures { SideIs table.now (side_level left) at seen.old seen.new result }
+) -> Option<SideEnd>
+    requires { at ≤ length table.now }
+    ensures { SideIs MIXED table.now (side_level LEFT) at seen.old seen.new result }
 {
     let mut i = at;
     let mut k: usize = 1;
@@ -135,14 +140,17 @@ pub fn side_end(
     let mut leaves: usize = 0;
     let mut met = false;
     while 0 < k {
-        let SideTurn::On(e, m, f, v, b) = side_turn(left, table, i, seen, ranges) else {
-            return SideEnd::Nowhere;
-        };
-        i = e;
-        fixed += f;
-        leaves += v;
-        k = k - 1 + m;
-        met = met | b;
+        let turn = side_turn::<LEFT, MIXED>(table, i, seen)?;
+        i = turn.end;
+        fixed += turn.fixed;
+        leaves += turn.leaves;
+        k = k - 1 + turn.more;
+        met = met | turn.met;
     }
-    SideEnd::At(i, fixed, leaves, met)
+    Some(SideEnd {
+        end: i,
+        fixed,
+        leaves,
+        met,
+    })
 }

@@ -1,64 +1,69 @@
 // One term of a rule, if it has at most 512 nodes and its dictionaries are in order.
 ghost use Rattle.std.specs.Prelude.{◌≡◌};
-ghost use Rattle.term.specs.Datum.{ground_ranges};
-ghost use Rattle.table.specs.Level.{Expression};
 ghost use Rattle.table.specs.Node.{side_level};
-ghost use Rattle.table.specs.Size.{SidePartContract};
-ghost use Rattle.table.specs.Walk.{placed, part_end};
+ghost use Rattle.table.specs.Part.{Ending, TermIs, ExpressionIs, SideFound};
 
 use crate::expression::expressions_end;
-use crate::side::{SideEnd, Sized, side_end};
+use crate::side::side_end;
 use minuska::limits::MAX_TERM_WORDS;
-use term::ground::{Ground, Ranges};
+use term::VARIABLES;
 use term::order::in_order;
-use term::{Place, VARIABLES};
+
+// The place behind a side, and its sizes: how many nodes it gives for certain, and how many terms of a match.
+#[derive(Clone, Copy)]
+pub struct Sized {
+    pub end: usize,
+    pub fixed: usize,
+    pub leaves: usize,
+}
+
+// Whether what was walked is a term: it is no longer than one, and its dictionaries, if any was met, are in order.
+fn is_term(table: &[i64], at: usize, end: usize, met: bool) -> bool
+    requires { Ending table.now at end met }
+    ensures { TermIs table.now at end result }
+{
+    if MAX_TERM_WORDS < end - at {
+        return false;
+    }
+    !met || in_order(table, at, end)
+}
 
 // The place behind the expression that starts at a place.
-pub fn mixed_part(table: &[i64], at: usize, seen: &[bool; VARIABLES], ranges: &Ranges) -> Place
-    requires { ranges.now ≡ ground_ranges }
-    ensures { result ≡ placed (part_end table.now at Expression seen.now) }
+pub fn expression<const MIXED: bool>(
+    table: &[i64],
+    at: usize,
+    seen: &[bool; VARIABLES],
+) -> Option<usize>
+    ensures { ExpressionIs MIXED table.now at seen.now result }
 {
     if table.len() < at {
-        return Place::Nowhere;
+        return None;
     }
-    let Ground::At(end, met) = expressions_end(table, at, 1, seen, ranges) else {
-        return Place::Nowhere;
-    };
-    if MAX_TERM_WORDS < end - at {
-        return Place::Nowhere;
+    let walked = expressions_end::<MIXED>(table, at, 1, seen)?;
+    if !is_term(table, at, walked.end, walked.met) {
+        return None;
     }
-    if met {
-        if !in_order(table, at, end) {
-            return Place::Nowhere;
-        }
-    }
-    Place::At(end)
+    Some(walked.end)
 }
 
 // The place behind the side that starts at a place, and its sizes.
-pub fn mixed_side_part(
-    left: bool,
+pub fn side<const LEFT: bool, const MIXED: bool>(
     table: &[i64],
     at: usize,
     seen: &mut [bool; VARIABLES],
-    ranges: &Ranges,
-) -> Sized
-    requires { ranges.now ≡ ground_ranges }
-    ensures { SidePartContract table.now at (side_level left) seen.old seen.new result }
+) -> Option<Sized>
+    ensures { SideFound MIXED table.now at (side_level LEFT) seen.old seen.new result }
 {
     if table.len() < at {
-        return Sized::Nowhere;
+        return None;
     }
-    let SideEnd::At(e, fixed, leaves, met) = side_end(left, table, at, seen, ranges) else {
-        return Sized::Nowhere;
-    };
-    if MAX_TERM_WORDS < e - at {
-        return Sized::Nowhere;
+    let walked = side_end::<LEFT, MIXED>(table, at, seen)?;
+    if !is_term(table, at, walked.end, walked.met) {
+        return None;
     }
-    if met {
-        if !in_order(table, at, e) {
-            return Sized::Nowhere;
-        }
-    }
-    Sized::At(e, fixed, leaves)
+    Some(Sized {
+        end: walked.end,
+        fixed: walked.fixed,
+        leaves: walked.leaves,
+    })
 }

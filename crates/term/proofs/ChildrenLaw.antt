@@ -1,24 +1,16 @@
 -- A node's child count: a call's by its function, any other's by its tag. And where a term ends that stands at a place.
 use mathlib.Core.Path.{◌≡◌, sym, ◌∙◌, ap, subst}
-use mathlib.Core.List.{List}
-use Prim.Native.Nat.{ℕ, ◌+◌}
+use Prim.Native.Nat.{ℕ}
 use native.Mathlib.Omega.{arith}
 use lib.Dec.{T}
-use lib.IntN.{ℤ, pos}
-use lib.ListN.{length}
+use lib.IntN.{ℤ, pos, nat_abs}
 use Rattle.minuska.proofs.Bridge.AppendedLaw.{labels_all}
 use Rattle.minuska.proofs.NodeLaw.{NodeIs, CallNode}
-use Rattle.minuska.specs.Bridge.Place.{Stands}
-use Rattle.minuska.specs.Bridge.Shape.{shapely}
 use Rattle.minuska.specs.Computed.Read.{plain_children, variable_tag, call_tag}
-use Rattle.minuska.specs.Term.{Role, a_variable, a_call, plain, role, Forest, nil, node, Term, single, every_label}
-use Rattle.minuska.specs.Word.{encode}
+use Rattle.minuska.specs.Term.{Role, a_variable, a_call, plain, role, Forest, nil, node, every_label}
 use Rattle.term.specs.TermAt.{NodeWords}
-use Rattle.term.specs.TermEnd.{any_label, children_of, term_end}
-use Rattle.term.specs.declared.Place.TheVariants.{At}
+use Rattle.term.specs.TermEnd.{any_label, arity_of, children_of}
 use Rattle.term.proofs.NodeLaw.{Node, children_node, count_is, role_is}
-use Rattle.term.proofs.TermEndLaw.{term_end_is}
-use Rattle.term.proofs.ExtentLaw.{stands_ends}
 
 module _ (t d : ℤ) (n : NodeWords t d) where
   that : Node any_label t d n.count
@@ -32,6 +24,11 @@ module _ (t d : ℤ) (n : NodeWords t d) where
       pick (a_call c) x = (c, subst (CallNode c t d) (count_is that) x)
       pick plain x = absurd (x.no_call_lem (let q = x.tag in cc))
 
+  -- a call's is its function's arity
+  pub call_count : t ≡ pos call_tag → arity_of (nat_abs d) ≡ children_of t d
+  unfolding arity_of
+  call_count e = let x = call_node e in ap (λ (z : ℤ). arity_of (nat_abs z)) x.1.datum ∙ sym x.1.arity
+
   pub other_node : (t ≡ pos call_tag → ⊥) → plain_children t d ≡ children_of t d
   unfolding plain_children
   other_node f = pick (role that.label) (role_is that) ∙ count_is that
@@ -41,10 +38,7 @@ module _ (t d : ℤ) (n : NodeWords t d) where
       pick (a_call c) x = absurd (f x.tag)
       pick plain x = sym x.count
 
--- every label passes a test that all pass
-any_label_lem : (f : Forest) → T (every_label any_label f)
+-- every label passes the test that all pass
+pub any_label_lem : (f : Forest) → T (every_label any_label f)
 any_label_lem nil = tt
 any_label_lem (node l cs ss) = labels_all any_label l cs ss tt (any_label_lem cs) (any_label_lem ss)
-
-pub term_ends : (ws : List ℤ) (at : ℕ) (t : Term) → T (shapely (single t)) → Stands ws at (encode (single t)) → term_end ws at ≡ At (at + length (encode (single t)))
-term_ends ws at t x s = term_end_is ws at ∙ stands_ends any_label ws at t x (any_label_lem (single t)) s

@@ -20,7 +20,7 @@ use Rattle.minuska.specs.Bridge.Shape.{shapely}
 use Rattle.minuska.specs.Term.{Forest, nil, node, Label, Term, single, term_count, every_label}
 use Rattle.minuska.specs.Word.{datum_word, encode, ok_head, tag_word}
 use Rattle.term.specs.TermEnd.{children_if, extent, place_of}
-use Rattle.term.specs.declared.Place.TheVariants.{At}
+use Rattle.std.specs.Prelude.{Some}
 use Rattle.term.proofs.NodeLaw.{Node, node_children, children_node}
 use Rattle.term.proofs.TermEndLaw.{extent_zero, extent_long, place_some}
 
@@ -54,14 +54,14 @@ module _ (p : Label → Bool) where
           ap {B = Option ℕ} some e
 
   -- A TERM THAT STANDS AT A PLACE ends behind its words
-  pub stands_ends : (ws : List ℤ) (at : ℕ) (t : Term) → T (shapely (single t)) → T (every_label p (single t)) → Stands ws at (encode (single t)) → place_of at (extent p (drop at ws) 1) ≡ At (at + length (encode (single t)))
+  pub stands_ends : (ws : List ℤ) (at : ℕ) (t : Term) → T (shapely (single t)) → T (every_label p (single t)) → Stands ws at (encode (single t)) → place_of at (extent p (drop at ws) 1) ≡ Some (at + length (encode (single t)))
   stands_ends ws at t x y s =
       let xs = encode (single t) in
       let rest = drop (length (encode (single t))) (drop at ws) in
       let split : drop at ws ≡ xs ++ rest = sym (ap (λ (v : List ℤ). v ++ drop (length (encode (single t))) (drop at ws)) (sym s.words) ∙ take-append-drop (length (encode (single t))) (drop at ws)) in
       ap (λ (v : List ℤ). place_of at (extent p v 1)) split ∙
       (ap (place_of at) (extent_encode (single t) x y rest 0 ∙ ap (λ (o : Option ℕ). o >>= λ m. some (length (encode (single t)) + m)) (extent_zero p rest)) ∙
-      ap (λ (n : ℕ). At (at + n)) (add-zero (length xs)))
+      ap (λ (n : ℕ). Some (at + n)) (add-zero (length xs)))
 
   -- ---- the words of terms are those of terms in range
   record Split (f : Forest) (n k : ℕ) : Type 0 where
@@ -140,7 +140,7 @@ module _ (p : Label → Bool) where
   one_term (node l cs nil) e = (record { label = l; children = cs }, refl)
   one_term (node l cs (node m ds us)) e = absurd (let f : ⊥ = omega arith in f)
 
-  pub ends_stands : (ws : List ℤ) (at e : ℕ) → place_of at (extent p (drop at ws) 1) ≡ At e → TermTo ws at e
+  pub ends_stands : (ws : List ℤ) (at e : ℕ) → place_of at (extent p (drop at ws) 1) ≡ Some e → TermTo ws at e
   ends_stands ws at e h =
       let a = place_some at e (extent p (drop at ws) 1) h in
       let l = extent_long p (drop at ws) 1 a.0 a.1 in

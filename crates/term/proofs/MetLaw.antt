@@ -1,54 +1,27 @@
 -- The walk over ground terms: a stretch of words without a dictionary, node by node; and its answer.
 use mathlib.Core.Path.{◌≡◌, refl, sym, ◌∙◌, ap, subst}
-use mathlib.Core.Bool.{Bool, true, false, not, true≢false}
+use mathlib.Core.Bool.{Bool, true, false}
 use mathlib.Core.List.{List}
-use mathlib.Core.Option.{none, some}
+use mathlib.Core.Option.{some}
 use Prim.Native.Nat.{ℕ, ◌+◌, ◌-◌, ◌*◌, ◌≤◌, ◌<◌}
 use native.Mathlib.Omega.{arith}
 use lib.Dec.{ltb}
 use lib.IntN.{ℤ, pos}
-use lib.ListN.{get_or}
+use lib.ListN.{get_or, length}
 use borrow.Author.Tests.{ltb-true, ltb-false}
-use Rattle.minuska.specs.Basics.{provided}
-use Rattle.minuska.specs.Computed.Read.{dictionary_tag}
-use Rattle.term.specs.TermEnd.{ground_label, tagged_label, TaggedNode, NoneMet, TaggedTermsAre, GroundTermsAre, children_if, tag_children, place_in, met_at, ground_terms_end}
-use Rattle.term.specs.declared.Place.{Place}
-use Rattle.term.specs.declared.Place.TheVariants.{At, Nowhere}
-use Rattle.term.specs.declared.ground.Ground.{Ground}
-use Rattle.term.specs.declared.ground.Ground.TheVariants as G
+use Rattle.minuska.specs.Computed.Read.{dictionary_tag, max_children, plain_children}
+use Rattle.term.specs.TermEnd.{ground_label, tagged_label, TaggedNode, GroundNode, NoneMet, TaggedTermsAre, GroundTermsAre, children_if, tag_children, ground_terms_end}
+use Rattle.std.specs.Prelude.{Some, None}
+use Rattle.term.specs.declared.ground.Walked.{Walked}
 use Rattle.term.specs.declared.ground.Reached.{Reached}
-use Rattle.term.proofs.NodeLaw.{children_node, node_children, weaker, tagged_ground, tagged_few, tagged_other}
-use Rattle.term.proofs.TermEndLaw.{ground_terms_are, place_done}
-
--- ---- a test's answer, as the code takes it
-pub failed : {A : Type 0} (r : Bool) (m : A) → not r ≡ true → provided r m ≡ none
-failed true m e = absurd (true≢false (sym e))
-failed false m e = refl
-
-pub passed : {A : Type 0} (r : Bool) (m : A) → not r ≡ false → provided r m ≡ some m
-passed true m e = refl
-passed false m e = absurd (true≢false e)
-
-pub answered : (r b : Bool) → not r ≡ not b → r ≡ b
-answered true true e = refl
-answered true false e = absurd (true≢false (sym e))
-answered false true e = absurd (true≢false e)
-answered false false e = refl
+use Rattle.term.proofs.NodeLaw.{children_node, node_children, weaker, tagged_ground, tagged_few, tagged_other, node_at}
+use Rattle.term.proofs.TermEndLaw.{ground_terms_are, place_done, Walking, walking_end, walking_short, walking_bad, walking_next}
 
 -- ---- a node that passes by its tag
-pub record Tagged (t d : ℤ) : Type 0 where
-  pub children : children_if ground_label t d ≡ some (tag_children t)
-  pub few : tag_children t ≤ 7
-  pub other : t ≡ pos dictionary_tag → ⊥
-
-pub tagged : (t d : ℤ) (r : Bool) → TaggedNode t d r → not r ≡ false → Tagged t d
-tagged t d r n e =
-    let m = children_node tagged_label t d (tag_children t) (n.children ∙ passed r (tag_children t) e) in
-    record {
-      children = node_children ground_label t d (tag_children t) (weaker tagged_label ground_label tagged_ground m);
-      few = tagged_few t d (tag_children t) m;
-      other = tagged_other t d (tag_children t) m;
-    }
+pub tagged_here : (t d : ℤ) → TaggedNode t d true → (children_if ground_label t d ≡ some (tag_children t)) × (tag_children t ≤ 7) × (t ≡ pos dictionary_tag → ⊥)
+tagged_here t d n =
+    let m = children_node tagged_label t d (tag_children t) n.children in
+    (node_children ground_label t d (tag_children t) (weaker tagged_label ground_label tagged_ground m), tagged_few t d (tag_children t) m, tagged_other t d (tag_children t) m)
 
 -- ---- no dictionary: in no words, with one node more, in one stretch behind another
 module _ (ws : List ℤ) where
@@ -75,22 +48,69 @@ module _ (ws : List ℤ) where
   none_here at f =
       record { nodes = 1; ends = omega arith; none = λ j h e. f (ap (λ (n : ℕ). get_or ws n (pos 0)) (let z : at ≡ at + 2 * j = omega arith in z) ∙ e) }
 
--- ---- the answer, from what the walk by tags came to: no term is left, or a walk that knows dictionaries went on
+-- ---- how far the walk by tags has come
+pub record Tagging (s : List ℤ) (at count i k : ℕ) : Type 0 where
+  pub inside : i ≤ length s
+  pub few : k ≤ 7 * i + max_children
+  pub walk : Walking ground_label s at count i k
+  pub none : NoneMet s at i
+
+pub tagging_yet : (s : List ℤ) (at count : ℕ) → at ≤ length s → count ≤ max_children → Tagging s at count at count
+tagging_yet s at count h l = record { inside = h; few = omega arith; walk = record { same = refl }; none = none_yet s at }
+
+module _ {s : List ℤ} {at count i k : ℕ} (g : Tagging s at count i k) where
+  stops : (0 < k → i + 2 ≤ length s → TaggedNode (get_or s i (pos 0)) (get_or s (i + 1) (pos 0)) false) → TaggedTermsAre s at count (record { at = i; left = k })
+  stops f = record { inside = g.inside; few = g.few; rest = ground_terms_are s at count ∙ (g.walk.same ∙ sym (ground_terms_are s i k)); none = g.none; stops = f }
+
+  pub tagging_end : k ≡ 0 → TaggedTermsAre s at count (record { at = i; left = 0 })
+  tagging_end z = subst (λ (n : ℕ). TaggedTermsAre s at count (record { at = i; left = n })) z (stops (λ p q. absurd (let f : ⊥ = omega arith in f)))
+
+  pub tagging_short : length s - i < 2 → TaggedTermsAre s at count (record { at = i; left = k })
+  tagging_short h = stops (λ p q. absurd (let f : ⊥ = omega arith in f))
+
+  pub tagging_other : TaggedNode (get_or s i (pos 0)) (get_or s (i + 1) (pos 0)) false → TaggedTermsAre s at count (record { at = i; left = k })
+  tagging_other n = stops (λ p q. n)
+
+  module _ (h : i + 2 ≤ length s) (j : 0 < k) (n : TaggedNode (get_or s i (pos 0)) (get_or s (i + 1) (pos 0)) true) where
+    pub tagging_few : tag_children (get_or s i (pos 0)) ≤ 7
+    tagging_few = (tagged_here _ _ n).1
+
+    pub tagging_on : Tagging s at count (i + 2) (k - 1 + tag_children (get_or s i (pos 0)))
+    tagging_on =
+        let t = tagged_here _ _ n in
+        let f = t.1 in
+        let l = g.few in
+        record { inside = h; few = omega arith; walk = walking_next g.walk h j _ t.0; none = none_joined s at i (i + 2) g.none (none_here s i t.2) }
+
+-- ---- how far the walk has come that knows dictionaries
+pub record Grounding (s : List ℤ) (at count i k : ℕ) : Type 0 where
+  pub inside : i ≤ length s
+  pub few : k ≤ 7 * length s + max_children
+  pub walk : Walking ground_label s at count i k
+
+module _ {s : List ℤ} {at count i k : ℕ} (g : Grounding s at count i k) where
+  pub grounding_end : k ≡ 0 → Some i ≡ ground_terms_end s at count
+  grounding_end z = sym (ground_terms_are s at count ∙ (walking_end g.walk z).is)
+
+  pub grounding_short : length s - i < 2 * k → None ≡ ground_terms_end s at count
+  grounding_short h = sym (ground_terms_are s at count ∙ walking_short g.walk h)
+
+  module _ (h : i + 2 ≤ length s) (j : 0 < k) where
+    pub grounding_other : GroundNode (get_or s i (pos 0)) (get_or s (i + 1) (pos 0)) false → None ≡ ground_terms_end s at count
+    grounding_other n = sym (ground_terms_are s at count ∙ walking_bad g.walk h j n.children)
+
+    module _ (n : GroundNode (get_or s i (pos 0)) (get_or s (i + 1) (pos 0)) true) where
+      pub grounding_few : plain_children (get_or s i (pos 0)) (get_or s (i + 1) (pos 0)) ≤ max_children
+      grounding_few = (node_at ground_label s i _ n.children).bounded
+
+      pub grounding_on : 2 * k ≤ length s - i → Grounding s at count (i + 2) (k - 1 + plain_children (get_or s i (pos 0)) (get_or s (i + 1) (pos 0)))
+      grounding_on l = let f = grounding_few in record { inside = h; few = omega arith; walk = walking_next g.walk h j _ n.children }
+
+-- ---- the answer where no term is left by the walk by tags
 module _ (ws : List ℤ) (at k : ℕ) (r : Reached) (t : TaggedTermsAre ws at k r) where
-  pub all_tagged : r.left ≡ 0 → GroundTermsAre ws at k (G.At r.at false)
+  pub all_tagged : r.left ≡ 0 → GroundTermsAre ws at k (Some (record { end = r.at; met = false }))
   all_tagged z =
       record {
         place = sym (t.rest ∙ (ground_terms_are ws r.at r.left ∙ place_done ground_label ws r.at r.left z));
-        none = λ e p. subst (NoneMet ws at) (let q : r.at ≡ e = cc in q) t.none;
+        none = λ w p q. subst (λ (v : Walked). NoneMet ws at v.end) (let e : record { end = r.at; met = false } ≡ w = cc in e) t.none;
       }
-
-  pub some_met : (p : Place) (g : Ground) → p ≡ ground_terms_end ws r.at r.left → g ≡ met_at p → GroundTermsAre ws at k g
-  some_met p g b c = record { place = ap place_in c ∙ (same p ∙ (b ∙ sym t.rest)); none = λ e q. absurd (never p e (sym c ∙ q)) }
-    where
-      same : (p : Place) → place_in (met_at p) ≡ p
-      same (At e) = refl
-      same Nowhere = refl
-
-      never : (p : Place) (e : ℕ) → met_at p ≡ G.At e false → ⊥
-      never (At i) e q = true≢false (let z : true ≡ false = cc in z)
-      never Nowhere e q = let z : ◌≡◌ {A = ℕ} 0 1 = cc in let f : ⊥ = omega arith in f

@@ -18,7 +18,7 @@ use Rattle.minuska.specs.Dictionary.{max_entries}
 use Rattle.minuska.specs.Term.{Label, error, truth, whole, variable, call, symbol, dictionary, Role, a_variable, a_call, plain, role, ground_at}
 use Rattle.minuska.specs.Word.{symbols, datum_word, ok_head, tag_word}
 use Rattle.term.specs.TermAt.{NodeWords}
-use Rattle.term.specs.TermEnd.{any_label, ground_label, tagged_label, children_if, children_of, tag_children}
+use Rattle.term.specs.TermEnd.{any_label, ground_label, tagged_label, children_if, children_of, tag_children, WalkedNode}
 
 -- ---- a node in range whose label passes a test, with its words and its child count
 pub record Node (p : Label → Bool) (t d : ℤ) (m : ℕ) : Type 0 where
@@ -77,6 +77,13 @@ ground_count t d m n = pick (role n.label) n.passes (role_is n)
     pick (a_variable v) g x = absurd g
     pick (a_call c) g x = absurd g
     pick plain g x = x.count
+
+-- the same as what a walk reads
+pub any_count : (p : Label → Bool) (t d : ℤ) → WalkedNode p t d → children_if p t d ≡ some (children_of t d)
+any_count p t d w = w.is ∙ ap {B = Option ℕ} some (count_is (children_node p t d w.count w.is))
+
+pub plain_count : (t d : ℤ) → WalkedNode ground_label t d → children_if ground_label t d ≡ some (plain_children t d)
+plain_count t d w = w.is ∙ ap {B = Option ℕ} some (ground_count t d w.count (children_node ground_label t d w.count w.is))
 
 -- a node that is no dictionary: its tag alone says its child count, which is small
 tag_count : (l : Label) (k : ℕ) → T (ok_head l k) → T (tagged_label l) → k ≡ tag_children (tag_word l k)

@@ -6,10 +6,10 @@ use mathlib.Core.List.{List, [], ◌∷◌, ◌++◌}
 use Prim.Native.Nat.{ℕ, suc, ◌+◌, ◌-◌, ◌*◌, ◌≤◌, ◌<◌}
 use native.Mathlib.Omega.{arith}
 use lib.Dec.{T, eqb→eq}
-use lib.IntN.{ℤ, pos}
+use lib.IntN.{ℤ, pos, nat_abs}
 use lib.ListN.{length, get_or, get_or-append}
 use lib.Seq.{get_or-append-add}
-use lib.Signed.{lt_z}
+use lib.Signed.{lt_z, non_neg}
 use Rattle.minuska.proofs.Bridge.AppendedLaw.{first_words, Labels, labels, labels_all, ordered_node, appended_shapely, appended_closed, Closed, closed_parts, below_other}
 use Rattle.minuska.proofs.Bridge.PlaceLaw.{Two, two_words, stands_word, stands_first, stands_second}
 use Rattle.minuska.proofs.Bridge.ShapeLaw.{Shaped, shaped, shaped_all}
@@ -355,17 +355,31 @@ module _ {ws : List ℤ} {from to i : ℕ} (r : Ordering ws from to i) where
     pub ordering_other : (get_or ws i (pos 0) ≡ pos dictionary_tag → ⊥) → Ordering ws from to (i + 2)
     ordering_other g = record { forest = left ordering_here; fills = front_next ordering_here; same = λ f h. r.same f h ∙ front_other ordering_here g }
 
-    module _ (e : get_or ws i (pos 0) ≡ pos dictionary_tag) (n : ℕ) (c : get_or ws (i + 1) (pos 0) ≡ pos n) where
-      pub ordering_entries : EntriesOf ws (i + 2) n ordering_here.children
-      ordering_entries =
+    module _ (e : get_or ws i (pos 0) ≡ pos dictionary_tag) where
+      -- its datum counts its entries
+      abbrev count : ℕ
+      count = nat_abs (get_or ws (i + 1) (pos 0))
+
+      counted : get_or ws (i + 1) (pos 0) ≡ pos count
+      counted = let q = front_count ordering_here e in q ∙ ap (λ (z : ℤ). pos (nat_abs z)) (sym q)
+
+      pub ordering_count : T (non_neg (get_or ws (i + 1) (pos 0)))
+      ordering_count = subst⁻¹ (λ (z : ℤ). T (non_neg z)) counted tt
+
+      here_entries : EntriesOf ws (i + 2) count ordering_here.children
+      here_entries =
           let q = front_count ordering_here e in
-          subst (λ (m : ℕ). EntriesOf ws (i + 2) m ordering_here.children) (let z : (front_dictionary ordering_here e).0 ≡ n = cc in z) (front_entries ordering_here e)
+          let c = counted in
+          subst (λ (m : ℕ). EntriesOf ws (i + 2) m ordering_here.children) (let z : (front_dictionary ordering_here e).0 ≡ count = cc in z) (front_entries ordering_here e)
 
-      ordering_on : (b : Bool) → Rises ws (i + 2) n b → (f : Forest) → FillsTo ws from to f → ordered f ≡ (b && ordered (left ordering_here))
-      ordering_on b q f h = r.same f h ∙ front_rises ordering_here e b (q.is ordering_here.children ordering_entries)
+      pub ordering_entries : EntriesAt ws (i + 2) count
+      ordering_entries = record { forest = ordering_here.children; are = here_entries }
 
-      pub ordering_stop : Rises ws (i + 2) n false → InOrder ws from to false
+      ordering_on : (b : Bool) → Rises ws (i + 2) count b → (f : Forest) → FillsTo ws from to f → ordered f ≡ (b && ordered (left ordering_here))
+      ordering_on b q f h = r.same f h ∙ front_rises ordering_here e b (q.is ordering_here.children here_entries)
+
+      pub ordering_stop : Rises ws (i + 2) count false → InOrder ws from to false
       ordering_stop q = record { is = λ f h. sym (ordering_on false q f h) }
 
-      pub ordering_next : Rises ws (i + 2) n true → Ordering ws from to (i + 2)
+      pub ordering_next : Rises ws (i + 2) count true → Ordering ws from to (i + 2)
       ordering_next q = record { forest = left ordering_here; fills = front_next ordering_here; same = ordering_on true q }

@@ -13,20 +13,16 @@ use lib.Seq.{drop-cons}
 use Rattle.minuska.proofs.Tests.{came}
 use Rattle.minuska.specs.Basics.{◌>>=◌}
 use Rattle.minuska.specs.Term.{Label}
-use Rattle.term.specs.TermEnd.{any_label, ground_label, ground_terms_end, children_if, extent, place_of, term_end}
-use Rattle.term.specs.declared.Place.TheVariants.{At, Nowhere}
+use Rattle.term.specs.TermEnd.{ground_label, ground_terms_end, children_if, extent, place_of, TermsAt, TermsEnd, WalkedNode}
+use Rattle.std.specs.Prelude.{Some, None}
 
--- ---- the shut names, opened
-pub term_end_is : (ws : List ℤ) (at : ℕ) → term_end ws at ≡ place_of at (extent any_label (drop at ws) 1)
-unfolding term_end
-term_end_is ws at = refl
-
+-- ---- the shut name, opened
 pub ground_terms_are : (ws : List ℤ) (at k : ℕ) → ground_terms_end ws at k ≡ place_of at (extent ground_label (drop at ws) k)
 unfolding ground_terms_end
 ground_terms_are ws at k = refl
 
 -- ---- an answer, and what it came from
-pub place_some : (at e : ℕ) (o : Option ℕ) → place_of at o ≡ At e → (m : ℕ) × (o ≡ some m) × (at + m ≡ e)
+pub place_some : (at e : ℕ) (o : Option ℕ) → place_of at o ≡ Some e → (m : ℕ) × (o ≡ some m) × (at + m ≡ e)
 place_some at e none p = absurd (let z : ◌≡◌ {A = ℕ} 0 1 = cc in let f : ⊥ = omega arith in f)
 place_some at e (some m) p = (m, refl, (let q : at + m ≡ e = cc in q))
 
@@ -66,11 +62,11 @@ two_words s i h =
 
 module _ (p : Label → Bool) (s : List ℤ) (i k : ℕ) where
   -- no term is left
-  pub place_done : k ≡ 0 → place_of i (extent p (drop i s) k) ≡ At i
-  place_done h = ap (λ (n : ℕ). place_of i (extent p (drop i s) n)) h ∙ (ap (place_of i) (extent_zero p (drop i s)) ∙ ap At (add-zero i))
+  pub place_done : k ≡ 0 → place_of i (extent p (drop i s) k) ≡ Some i
+  place_done h = ap (λ (n : ℕ). place_of i (extent p (drop i s) n)) h ∙ (ap (place_of i) (extent_zero p (drop i s)) ∙ ap Some (add-zero i))
 
   -- too few words are left
-  pub place_short : length s - i < 2 * k → place_of i (extent p (drop i s) k) ≡ Nowhere
+  pub place_short : length s - i < 2 * k → place_of i (extent p (drop i s) k) ≡ None
   place_short h = ap (place_of i) (extent_short p (drop i s) k (simp length-drop (omega arith)))
 
   module _ (h : i + 2 ≤ length s) (j : 0 < k) where
@@ -82,13 +78,13 @@ module _ (p : Label → Bool) (s : List ℤ) (i k : ℕ) where
     onward : Option ℕ → Option ℕ
     onward o = o >>= λ n. extent p (drop (i + 2) s) (n + (k - 1)) >>= λ m. some (2 + m)
 
-    pub place_bad : children_if p (get_or s i (pos 0)) (get_or s (i + 1) (pos 0)) ≡ none → place_of i (extent p (drop i s) k) ≡ Nowhere
+    pub place_bad : children_if p (get_or s i (pos 0)) (get_or s (i + 1) (pos 0)) ≡ none → place_of i (extent p (drop i s) k) ≡ None
     unfolding onward
     place_bad e = ap (place_of i) (one_more ∙ ap onward e)
 
     shift : (o : Option ℕ) → place_of i (o >>= λ m. some (2 + m)) ≡ place_of (i + 2) o
     shift none = refl
-    shift (some m) = let e : i + (2 + m) ≡ i + 2 + m = omega arith in ap At e
+    shift (some m) = let e : i + (2 + m) ≡ i + 2 + m = omega arith in ap Some e
 
     pub place_on : (m : ℕ) → children_if p (get_or s i (pos 0)) (get_or s (i + 1) (pos 0)) ≡ some m → place_of i (extent p (drop i s) k) ≡ place_of (i + 2) (extent p (drop (i + 2) s) (k - 1 + m))
     unfolding onward
@@ -102,10 +98,10 @@ module _ (p : Label → Bool) (s : List ℤ) (i k : ℕ) where
     pub room : i + 2 ≤ length s
     pub count : ℕ
     pub children : children_if p (get_or s i (pos 0)) (get_or s (i + 1) (pos 0)) ≡ some count
-    pub rest : place_of (i + 2) (extent p (drop (i + 2) s) (k - 1 + count)) ≡ At e
+    pub rest : place_of (i + 2) (extent p (drop (i + 2) s) (k - 1 + count)) ≡ Some e
     pub few : k - 1 + count ≤ length s
 
-  pub place_turn : (e : ℕ) → 0 < k → place_of i (extent p (drop i s) k) ≡ At e → Turn e
+  pub place_turn : (e : ℕ) → 0 < k → place_of i (extent p (drop i s) k) ≡ Some e → Turn e
   place_turn e j q =
       let a = place_some i e (extent p (drop i s) k) q in
       let b = extent_long p (drop i s) k a.0 a.1 in
@@ -121,3 +117,37 @@ module _ (p : Label → Bool) (s : List ℤ) (i k : ℕ) where
           let b = extent_long p (drop (i + 2) s) (k - 1 + m) a.0 a.1 in
           let l = length-drop (i + 2) s in
           record { room = room; count = m; children = c; rest = on; few = omega arith }
+
+-- ---- a walk over so many terms: k of them are left to read at i, and they end where all do
+pub record Walking (p : Label → Bool) (s : List ℤ) (at count i k : ℕ) : Type 0 where
+  pub same : place_of at (extent p (drop at s) count) ≡ place_of i (extent p (drop i s) k)
+
+module _ {p : Label → Bool} {s : List ℤ} {at count i k : ℕ} (w : Walking p s at count i k) where
+  pub walking_end : k ≡ 0 → TermsEnd p s at count i
+  walking_end z = record { is = w.same ∙ place_done p s i k z }
+
+  pub walking_short : length s - i < 2 * k → place_of at (extent p (drop at s) count) ≡ None
+  walking_short h = w.same ∙ place_short p s i k h
+
+  pub walking_bad : i + 2 ≤ length s → 0 < k → children_if p (get_or s i (pos 0)) (get_or s (i + 1) (pos 0)) ≡ none → place_of at (extent p (drop at s) count) ≡ None
+  walking_bad h j e = w.same ∙ place_bad p s i k h j e
+
+  pub walking_next : i + 2 ≤ length s → 0 < k → (m : ℕ) → children_if p (get_or s i (pos 0)) (get_or s (i + 1) (pos 0)) ≡ some m → Walking p s at count (i + 2) (k - 1 + m)
+  walking_next h j m e = record { same = w.same ∙ place_on p s i k h j m e }
+
+  -- where they end somewhere
+  module _ (a : TermsAt p s at count) (j : 0 < k) where
+    turn : Turn p s i k a.end
+    turn = place_turn p s i k a.end j (sym w.same ∙ a.ends)
+
+    -- a node stands at i
+    pub walking_node : WalkedNode p (get_or s i (pos 0)) (get_or s (i + 1) (pos 0))
+    walking_node = record { count = turn.count; is = turn.children }
+
+    -- and the walk goes on behind it
+    module _ (m : ℕ) (e : children_if p (get_or s i (pos 0)) (get_or s (i + 1) (pos 0)) ≡ some m) where
+      pub walking_few : k - 1 + m ≤ length s
+      walking_few = let c : turn.count ≡ m = (let t = turn.children in cc) in let f = turn.few in omega arith
+
+      pub walking_on : Walking p s at count (i + 2) (k - 1 + m)
+      walking_on = walking_next turn.room j m e

@@ -1,5 +1,4 @@
 pub mod TermEnd
-pub mod Datum
 pub mod TermAt
 pub mod Order
 pub mod Configuration

@@ -1,10 +1,21 @@
 // The walk over ground terms whose words are not checked yet.
-ghost use Rattle.std.specs.Prelude.{◌≡◌, ◌+◌, ◌*◌, ◌≤◌, length};
-ghost use Rattle.minuska.specs.Computed.Read.{max_children};
-ghost use Rattle.term.specs.Datum.{ground_ranges};
-ghost use Rattle.term.specs.TermEnd.{GroundNode, TaggedNode, TaggedTermsAre, GroundTermsAre, ground_terms_end, met_at};
+ghost use Rattle.std.specs.Prelude.{◌≡◌, ◌+◌, ◌*◌, ◌≤◌, length, IfSome};
+ghost use Rattle.std.specs.Option.{is_some};
+ghost use Rattle.minuska.specs.Computed.Read.{max_children, plain_children};
+ghost use Rattle.term.specs.TermEnd.{tag_children, GroundNode, TaggedNode, TaggedTermsAre, GroundTermsAre, ground_terms_end};
 
-use crate::{DICTIONARY, MAX_ENTRIES, Place, SYMBOLS, plain_children, tag_children, word};
+use crate::{DICTIONARY, MAX_ENTRIES, SYMBOLS};
+
+// How many tags there are, those of no node too.
+const TAGS: usize = 16;
+
+// The nodes of a ground term by tag: the least datum, the most, the child count. A tag that it has none of has an empty range.
+// Columns, and not a list of rows: an entry is found with two instructions less. And no match by kinds: so no branch goes by the tag.
+struct Nodes {
+    least: [i64; TAGS],
+    most: [i64; TAGS],
+    children: [usize; TAGS],
+}
 
 // The most datum of a tag that no ground term has.
 const NO_VARIABLE: i64 = -1;
@@ -20,94 +31,87 @@ const LEAST_SYMBOL: i64 = 0;
 
 const MOST_SYMBOL: i64 = SYMBOLS - 1;
 
-// How many tags there are, those of no node too.
-const TAGS: usize = 16;
+static NODES: Nodes = Nodes {
+    least: [
+        0,
+        0,
+        i64::MIN,
+        0,
+        0,
+        0,
+        0,
+        0,
+        LEAST_SYMBOL,
+        LEAST_SYMBOL,
+        LEAST_SYMBOL,
+        LEAST_SYMBOL,
+        LEAST_SYMBOL,
+        LEAST_SYMBOL,
+        LEAST_SYMBOL,
+        LEAST_SYMBOL,
+    ],
+    most: [
+        0,
+        1,
+        i64::MAX,
+        NO_VARIABLE,
+        NO_CALL,
+        ELSEWHERE,
+        NO_NODE,
+        NO_NODE,
+        MOST_SYMBOL,
+        MOST_SYMBOL,
+        MOST_SYMBOL,
+        MOST_SYMBOL,
+        MOST_SYMBOL,
+        MOST_SYMBOL,
+        MOST_SYMBOL,
+        MOST_SYMBOL,
+    ],
+    children: [0, 0, 0, 0, 0, 0, 0, 0, 0, 1, 2, 3, 4, 5, 6, 7],
+};
 
-// The range of a ground term's datum by tag: the least of each, then the most of each. A tag that it has none of has an empty range.
-// The walks are lent this list, so that it is laid out once and not at every node.
-pub type Ranges = [i64; 2 * TAGS];
+// The child count of two words that are a node of a ground term whose tag alone says how many children it has: any but a dictionary.
+pub fn tagged_children(t: i64, d: i64) -> Option<usize>
+    ensures node { TaggedNode t d (is_some result) }
+    ensures count { IfSome result (λ m. m ≡ tag_children t) }
+{
+    let tag = usize::try_from(t).ok()?;
+    if TAGS <= tag {
+        return None;
+    }
+    if NODES.least[tag] <= d && d <= NODES.most[tag] {
+        return Some(NODES.children[tag]);
+    }
+    None
+}
 
-pub const RANGES: Ranges = [
-    0,
-    0,
-    -9223372036854775808,
-    0,
-    0,
-    0,
-    0,
-    0,
-    LEAST_SYMBOL,
-    LEAST_SYMBOL,
-    LEAST_SYMBOL,
-    LEAST_SYMBOL,
-    LEAST_SYMBOL,
-    LEAST_SYMBOL,
-    LEAST_SYMBOL,
-    LEAST_SYMBOL,
-    0,
-    1,
-    9223372036854775807,
-    NO_VARIABLE,
-    NO_CALL,
-    ELSEWHERE,
-    NO_NODE,
-    NO_NODE,
-    MOST_SYMBOL,
-    MOST_SYMBOL,
-    MOST_SYMBOL,
-    MOST_SYMBOL,
-    MOST_SYMBOL,
-    MOST_SYMBOL,
-    MOST_SYMBOL,
-    MOST_SYMBOL,
-];
-
-// Whether two words are a node of a ground term whose tag alone says how many children it has: any but a dictionary.
-pub fn in_range(ranges: &Ranges, t: i64, d: i64) -> bool
-    requires { ranges.now ≡ ground_ranges }
+// Whether two words are such a node.
+pub fn in_range(t: i64, d: i64) -> bool
     ensures { TaggedNode t d result }
 {
-    if t < 0 {
-        return false;
-    }
-    let tag = t as usize;
-    if TAGS <= tag {
-        return false;
-    }
-    if d < ranges[tag] {
-        return false;
-    }
-    if ranges[tag + TAGS] < d {
-        return false;
-    }
-    true
+    tagged_children(t, d).is_some()
 }
 
-// Whether two words are a node of a ground term.
-pub fn is_ground(ranges: &Ranges, t: i64, d: i64) -> bool
-    requires { ranges.now ≡ ground_ranges }
-    ensures { GroundNode t d result }
+// The child count of two words that are a node of a ground term.
+pub fn ground_children(t: i64, d: i64) -> Option<usize>
+    ensures node { GroundNode t d (is_some result) }
+    ensures count { IfSome result (λ m. m ≡ plain_children t d) }
 {
-    if in_range(ranges, t, d) {
-        return true;
-    }
     if t != DICTIONARY {
-        return false;
+        return tagged_children(t, d);
     }
-    if d < 0 {
-        return false;
+    match d {
+        0..=MAX_ENTRIES => Some(2 * d as usize),
+        _ => None,
     }
-    if MAX_ENTRIES < d {
-        return false;
-    }
-    true
 }
 
-// The place behind the terms that a walk has taken, and whether it met a dictionary; or that it found something else.
+// What a walk over ground terms has taken: the place behind it, and whether a dictionary was among it.
 #[derive(Clone, Copy)]
-pub enum Ground {
-    At(usize, bool),
-    Nowhere,
+pub struct Walked {
+    pub end: usize,
+    pub met: bool,
 }
 
 // How far a walk by tags comes: the place behind what it took, and how many terms are still to come there.
@@ -119,8 +123,8 @@ pub struct Reached {
 
 // The walk over so many ground terms that start at a place, up to the first node that is not in range by its tag: a dictionary, or none of a ground term. A node's child count shows
 // in its tag.
-pub fn tagged_terms(s: &[i64], at: usize, count: usize, ranges: &Ranges) -> Reached
-    requires { (at ≤ length s.now) × (count ≤ max_children) × (ranges.now ≡ ground_ranges) }
+pub fn tagged_terms(s: &[i64], at: usize, count: usize) -> Reached
+    requires { (at ≤ length s.now) × (count ≤ max_children) }
     ensures { TaggedTermsAre s.now at count result }
 {
     let n = s.len();
@@ -130,42 +134,34 @@ pub fn tagged_terms(s: &[i64], at: usize, count: usize, ranges: &Ranges) -> Reac
         if n - i < 2 {
             return Reached { at: i, left: k };
         }
-        let t = word(s, i);
-        let d = word(s, i + 1);
-        if !in_range(ranges, t, d) {
+        let Some(m) = tagged_children(s[i], s[i + 1]) else {
             return Reached { at: i, left: k };
-        }
-        k = k - 1 + tag_children(t);
+        };
+        k = k - 1 + m;
         i += 2;
     }
     Reached { at: i, left: 0 }
 }
 
-// The place behind so many ground terms that start at a place. Where a dictionary is met, `ground_mixed` goes on.
-pub fn ground_terms(s: &[i64], at: usize, count: usize, ranges: &Ranges) -> Ground
-    requires { (at ≤ length s.now) × (count ≤ max_children) × (ranges.now ≡ ground_ranges) }
+// What the walk over so many ground terms that start at a place has taken, if they stand there. Where a dictionary is met, `ground_mixed` goes on.
+pub fn ground_terms(s: &[i64], at: usize, count: usize) -> Option<Walked>
+    requires { (at ≤ length s.now) × (count ≤ max_children) }
     ensures { GroundTermsAre s.now at count result }
 {
-    let reached = tagged_terms(s, at, count, ranges);
+    let reached = tagged_terms(s, at, count);
     if reached.left == 0 {
-        return Ground::At(reached.at, false);
+        return Some(Walked {
+            end: reached.at,
+            met: false,
+        });
     }
-    met(ground_mixed(s, reached.at, reached.left, ranges))
+    let end = ground_mixed(s, reached.at, reached.left)?;
+    Some(Walked { end, met: true })
 }
 
-// The answer of a walk that met a dictionary.
-fn met(p: Place) -> Ground
-    ensures { result ≡ met_at p }
-{
-    match p {
-        Place::At(e) => Ground::At(e, true),
-        Place::Nowhere => Ground::Nowhere,
-    }
-}
-
-// The same walk where dictionaries are met. A term is two words or more, so fewer than `2 * k` words hold no `k` terms.
-fn ground_mixed(s: &[i64], at: usize, count: usize, ranges: &Ranges) -> Place
-    requires { (at ≤ length s.now) × (count ≤ 7 * length s.now + max_children) × (ranges.now ≡ ground_ranges) }
+// The place behind so many ground terms, where dictionaries are met. A term is two words or more, so fewer than `2 * k` words hold no `k` terms.
+fn ground_mixed(s: &[i64], at: usize, count: usize) -> Option<usize>
+    requires { (at ≤ length s.now) × (count ≤ 7 * length s.now + max_children) }
     ensures { result ≡ ground_terms_end s.now at count }
 {
     let n = s.len();
@@ -173,15 +169,10 @@ fn ground_mixed(s: &[i64], at: usize, count: usize, ranges: &Ranges) -> Place
     let mut k = count;
     while 0 < k {
         if n - i < 2 * k {
-            return Place::Nowhere;
+            return None;
         }
-        let t = word(s, i);
-        let d = word(s, i + 1);
-        if !is_ground(ranges, t, d) {
-            return Place::Nowhere;
-        }
-        k = k - 1 + plain_children(t, d);
+        k = k - 1 + ground_children(s[i], s[i + 1])?;
         i += 2;
     }
-    Place::At(i)
+    Some(i)
 }

@@ -1,14 +1,14 @@
 // Terms in words: a node's child count, the end of a term, the configuration check, the part that is a subterm.
 #![tactic(auto)]
 
-ghost use Rattle.std.specs.Prelude.{◌≡◌, ◌<◌, pos, length, get_or};
+ghost use Rattle.std.specs.Prelude.{◌≡◌, ◌<◌, length};
+ghost use Rattle.std.proofs.Math.Option.{some};
 ghost use Rattle.minuska.specs.Bridge.Place.{GroundAt, GroundEnds};
 ghost use Rattle.minuska.specs.Computed.Read.{plain_children};
 ghost use Rattle.minuska.specs.Contract.{CheckConfigurationContract, SubtermContract};
 ghost use Rattle.minuska.specs.Function.{functions};
-ghost use Rattle.minuska.specs.Word.{variables};
 ghost use Rattle.term.specs.TermAt.{TermAt, TermEnds, NodeWords};
-ghost use Rattle.term.specs.TermEnd.{any_label, ground_label, arity_of, children_of, tag_children, TermsAt, TermsEnd};
+ghost use Rattle.term.specs.TermEnd.{arity_of, children_of, children_if, tag_children, walked, WalkedNode, TermsAt, TermsEnd};
 
 use minuska::limits::MAX_CONFIGURATION_WORDS;
 
@@ -17,7 +17,7 @@ pub mod ground;
 pub mod order;
 pub mod places;
 
-use crate::ground::{Ground, ground_terms};
+use crate::ground::ground_terms;
 use crate::order::in_order;
 use minuska::Refusal;
 
@@ -50,9 +50,6 @@ pub const SYMBOLS: i64 = 4096;
 // "the entry count, 0 to 64"
 pub const MAX_ENTRIES: i64 = 64;
 
-// A number for each variable: where the parts of a match start, or where they end. A configuration's places have 17 bits: in 32 the array is cleared with half the stores of 64.
-pub type Places = [u32; VARIABLES];
-
 // A part of a slice of words: from one place up to another.
 #[derive(Clone, Copy)]
 pub struct Span {
@@ -60,36 +57,8 @@ pub struct Span {
     pub to: usize,
 }
 
-// The place behind what a walk has taken, or that it found something else.
-#[derive(Clone, Copy)]
-pub enum Place {
-    At(usize),
-    Nowhere,
-}
-
-// The word at an index.
-pub fn word(s: &[i64], i: usize) -> i64
-    requires { i < length s.now }
-    ensures { result ≡ get_or s.now i (pos 0) }
-{
-    s[i]
-}
-
-// A variable's number.
-pub fn place_of(places: &Places, v: usize) -> usize
-    requires { v < variables }
-    ensures { result ≡ get_or places.now v 0 }
-{
-    wide(places[v])
-}
-
-fn wide(x: u32) -> usize
-    ensures { result ≡ x }
-{
-    x as usize
-}
-
 // The arity of a function.
+#[tactic(auto, unfolding(crate::specs::TermEnd::arity_of))]
 pub fn arity(code: usize) -> usize
     requires { code < length functions }
     ensures { result ≡ arity_of code }
@@ -108,70 +77,43 @@ pub fn arity(code: usize) -> usize
 }
 
 // The child count of a node, from its two words.
+#[tactic(auto, using(crate::proofs::ChildrenLaw::other_node, crate::proofs::ChildrenLaw::call_node))]
 pub fn children(t: i64, d: i64) -> usize
     requires { NodeWords t d }
     ensures { result ≡ children_of t d }
 {
-    if t != CALL {
-        return plain_children(t, d);
+    if t == CALL {
+        return arity(d as usize);
     }
-    arity(d as usize)
+    plain_children(t, d)
 }
 
 // The same of a node that is no call, which is not asked here: the walks over ground terms meet none. A dictionary has two children an entry.
+#[tactic(auto, using(crate::proofs::NodeLaw::plain_by_tag, crate::proofs::NodeLaw::dictionary_words), unfolding(minuska::specs::Computed::Read::plain_children))]
 pub fn plain_children(t: i64, d: i64) -> usize
     requires { NodeWords t d }
     ensures { result ≡ plain_children t d }
 {
     if t == DICTIONARY {
-        return 2 * (d as usize);
+        return 2 * d as usize;
     }
     tag_children(t)
 }
 
 // What a tag says by itself: "0", "tag minus 8".
+#[tactic(auto, unfolding(crate::specs::TermEnd::tag_children))]
 pub fn tag_children(t: i64) -> usize
     ensures { result ≡ tag_children t }
 {
-    if t < SYMBOL {
-        0
-    } else {
-        t as usize - SYMBOL as usize
-    }
+    if t < SYMBOL { 0 } else { (t - SYMBOL) as usize }
 }
 
-// The place behind the ground term that stands at a place. At the first dictionary `mixed_ground_end` goes on: this loop has no other work for one than to leave.
+// The place behind the ground term that stands at a place.
 pub fn ground_end(s: &[i64], at: usize) -> usize
     requires { GroundAt s.now at }
     ensures { GroundEnds s.now at result }
 {
-    let mut i = at;
-    let mut rest: usize = 1;
-    while 0 < rest {
-        let t = word(s, i);
-        if t == DICTIONARY {
-            return mixed_ground_end(s, i, rest);
-        }
-        rest = rest - 1 + tag_children(t);
-        i += 2;
-    }
-    i
-}
-
-// The place behind so many ground terms that stand at a place, where dictionaries are met.
-fn mixed_ground_end(s: &[i64], at: usize, count: usize) -> usize
-    requires { TermsAt ground_label s.now at count }
-    ensures { TermsEnd ground_label s.now at count result }
-{
-    let mut i = at;
-    let mut k = count;
-    while 0 < k {
-        let t = word(s, i);
-        let d = word(s, i + 1);
-        k = k - 1 + plain_children(t, d);
-        i += 2;
-    }
-    i
+    terms_end::<false>(s, at, 1)
 }
 
 // The place behind the term that stands at a place, which may have variables and calls.
@@ -179,34 +121,52 @@ pub fn expression_end(s: &[i64], at: usize) -> usize
     requires { TermAt s.now at }
     ensures { TermEnds s.now at result }
 {
+    terms_end::<true>(s, at, 1)
+}
+
+// The place behind so many terms that stand at a place, which have variables and calls only if `ANY`. At the first dictionary `mixed_end` goes on: this loop has no other work for one
+// than to leave.
+fn terms_end<const ANY: bool>(s: &[i64], at: usize, count: usize) -> usize
+    requires { TermsAt (walked ANY) s.now at count }
+    ensures { TermsEnd (walked ANY) s.now at count result }
+{
     let mut i = at;
-    let mut left: usize = 1;
-    while 0 < left {
-        let t = word(s, i);
+    let mut k = count;
+    while 0 < k {
+        let t = s[i];
         if t == DICTIONARY {
-            return mixed_expression_end(s, i, left);
+            return mixed_end::<ANY>(s, i, k);
         }
-        let d = word(s, i + 1);
-        left = left - 1 + children(t, d);
+        k = k - 1 + walked_children::<ANY>(t, s[i + 1]);
         i += 2;
     }
     i
 }
 
-// The place behind so many terms that stand at a place, where dictionaries are met.
-fn mixed_expression_end(s: &[i64], at: usize, count: usize) -> usize
-    requires { TermsAt any_label s.now at count }
-    ensures { TermsEnd any_label s.now at count result }
+// The same where dictionaries are met.
+fn mixed_end<const ANY: bool>(s: &[i64], at: usize, count: usize) -> usize
+    requires { TermsAt (walked ANY) s.now at count }
+    ensures { TermsEnd (walked ANY) s.now at count result }
 {
     let mut i = at;
     let mut k = count;
     while 0 < k {
-        let t = word(s, i);
-        let d = word(s, i + 1);
-        k = k - 1 + children(t, d);
+        k = k - 1 + walked_children::<ANY>(s[i], s[i + 1]);
         i += 2;
     }
     i
+}
+
+// The child count of a node that such a walk meets.
+fn walked_children<const ANY: bool>(t: i64, d: i64) -> usize
+    requires { WalkedNode (walked ANY) t d }
+    ensures { children_if (walked ANY) t d ≡ some result }
+{
+    if ANY {
+        children(t, d)
+    } else {
+        plain_children(t, d)
+    }
 }
 
 // Whether the words are exactly one configuration.
@@ -217,17 +177,12 @@ pub fn check_configuration(words: &[i64]) -> Result<(), Refusal>
     if MAX_CONFIGURATION_WORDS < n {
         return Err(Refusal::BadConfiguration);
     }
-    let ranges = ground::RANGES;
-    let Ground::At(e, met) = ground_terms(words, 0, 1, &ranges) else {
-        return Err(Refusal::BadConfiguration);
-    };
-    if e != n {
+    let walked = ground_terms(words, 0, 1).ok_or(Refusal::BadConfiguration)?;
+    if walked.end != n {
         return Err(Refusal::BadConfiguration);
     }
-    if met {
-        if !in_order(words, 0, n) {
-            return Err(Refusal::BadConfiguration);
-        }
+    if walked.met && !in_order(words, 0, n) {
+        return Err(Refusal::BadConfiguration);
     }
     Ok(())
 }
@@ -236,12 +191,9 @@ pub fn check_configuration(words: &[i64]) -> Result<(), Refusal>
 pub fn subterm<'a>(words: &'a [i64], place: usize) -> &'a [i64]
     ensures { SubtermContract words.now place result.now }
 {
-    if words.len() / 2 <= place {
-        return &words[0..0];
+    if words.len() / 2 <= place || check_configuration(words).is_err() {
+        return &words[..0];
     }
-    let Ok(()) = check_configuration(words) else {
-        return &words[0..0];
-    };
     let s = 2 * place;
     let e = ground_end(words, s);
     &words[s..e]

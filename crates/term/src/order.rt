@@ -1,7 +1,7 @@
 // Whether dictionaries are in order: "keys being whole numbers in strictly rising order".
 ghost use Rattle.term.specs.Order.{Filled, InOrder, EntriesAt, Rises};
 
-use crate::{DICTIONARY, WHOLE, ground_end, word};
+use crate::{DICTIONARY, WHOLE, ground_end};
 
 // Whether every dictionary among terms that stand from a place up to another is in order. Each node is looked at once; at a dictionary its entries are walked, and so each of
 // its values but the last once more. In a nest of first values an inner node is walked for every dictionary around it: there the cost is quadratic.
@@ -11,18 +11,15 @@ pub fn in_order(s: &[i64], from: usize, to: usize) -> bool
 {
     let mut i = from;
     while i < to {
-        if word(s, i) == DICTIONARY {
-            if !rises(s, i + 2, word(s, i + 1) as usize) {
-                return false;
-            }
+        if s[i] == DICTIONARY && !rises(s, i + 2, s[i + 1] as usize) {
+            return false;
         }
         i += 2;
     }
     true
 }
 
-// Whether the keys of so many entries that start at a place are whole numbers in strictly rising order: `k` entries stand at `i`, and the first of them has such a key.
-// The last value is not walked.
+// Whether the keys of so many entries that start at a place are whole numbers in strictly rising order. The last value is not walked.
 fn rises(s: &[i64], at: usize, count: usize) -> bool
     requires { EntriesAt s.now at count }
     ensures { Rises s.now at count result }
@@ -30,21 +27,16 @@ fn rises(s: &[i64], at: usize, count: usize) -> bool
     if count == 0 {
         return true;
     }
-    if word(s, at) != WHOLE {
+    if s[at] != WHOLE {
         return false;
     }
     let mut i = at;
-    let mut k = count;
-    while 1 < k {
+    for _ in 1..count {
         let next = ground_end(s, i + 2);
-        if word(s, next) != WHOLE {
-            return false;
-        }
-        if word(s, next + 1) <= word(s, i + 1) {
+        if s[next] != WHOLE || s[next + 1] <= s[i + 1] {
             return false;
         }
         i = next;
-        k -= 1;
     }
     true
 }

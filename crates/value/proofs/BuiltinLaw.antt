@@ -4,20 +4,20 @@ use mathlib.Core.Bool.{Bool, true, false, ◌&&◌, cond}
 use mathlib.Core.Option.{Option, none, some}
 use Prim.Native.Nat.{ℕ, zero, suc, ◌^◌, ◌≤◌, ◌<◌}
 use native.Mathlib.Omega.{arith}
-use lib.Dec.{eqb, leb}
+use lib.Dec.{eqb, leb, ltb}
 use lib.ListN.{length, get_or-eq_default}
 use lib.IntN.{ℤ, pos, negsuc, ◌*ℤ◌}
 use lib.Signed.{mag, lt_z}
-use borrow.Author.Tests.{ltb-true, ltb-false, le-leb, lt-leb, ne_eqb}
+use borrow.Author.Tests.{ltb-true, ltb-false, le-leb, lt-leb, lt-ltb, ne_eqb}
 use mir.Syntax.{w64}
-use mir.Val.{SFits, to_z, of_z}
-use mir.Facts.{to_z-of_z}
-use Rattle.minuska.specs.Term.{truth, Label, error, whole, symbol, dictionary, Term, as_symbol, as_truth, as_whole}
+use mir.Val.{SFits, of_z}
+use Rattle.minuska.specs.Term.{leaf, Label, error, whole, symbol, dictionary, Term, as_symbol, as_truth, as_whole}
 use Rattle.minuska.specs.Basics.{◌>>=◌, present, provided, same_whole}
 use Rattle.minuska.specs.Nearest.{nearest}
-use Rattle.minuska.specs.Function.{wrong_kind, or_wrong_kind, in_word, whole_term, share_range, share_of, Function, functions, no_function}
-use Rattle.value.specs.Builtin.{unsigned, label_at, root_of, leaves, applied}
-use Rattle.value.proofs.Shift.{eq_bits, word_is, word_not}
+use Rattle.minuska.specs.Function.{wrong_kind, or_wrong_kind, whole_term, share_range, share_of, Function, functions, no_function}
+use Rattle.value.specs.Builtin.{unsigned, label_at, label_of, root_of, leaves, applied}
+use Rattle.value.specs.declared.builtin.Root.{Root}
+use Rattle.value.proofs.SignedLaw.{eq_bits, word_is, word_not}
 
 -- ---- the kinds that functions ask for: the tag, a label read as one of the kind, what a datum says, and that the tag decides
 unsigned_is : (z : ℤ) → unsigned z ≡ of_z w64 z
@@ -93,48 +93,35 @@ pub tag_not : (t : ℤ) (n : ℕ) → SFits w64 t → n < 2 ^ 63 → (of_z w64 t
 tag_not t n f h e = word_not t (pos n) f (record { sfits = h }) e
 
 -- ---- a function's value, from tests of the tags
-module _ {A : Type 0} (k : Kind A) (a x : ℤ) where
-  there : (s : Bool) (v : A) → s ≡ present (provided s v)
-  there true v = refl
-  there false v = refl
+there : {A : Type 0} (s : Bool) (v : A) → s ≡ present (provided s v)
+there true v = refl
+there false v = refl
 
+module _ {A : Type 0} (k : Kind A) (a : Root) where
   -- bool.is and z.is look at the tag alone
-  pub is_there : same_whole a k.tag ≡ present (k.read (label_at a x))
-  is_there = rw (k.seen a x) (there (same_whole a k.tag) (k.says x))
+  pub is_there : same_whole a.tag k.tag ≡ present (k.read (label_of a))
+  is_there = rw (k.seen a.tag a.datum) (there (same_whole a.tag k.tag) (k.says a.datum))
 
-  pub one_value : (f : A → Term) (r : Bool) → same_whole a k.tag ≡ r → root_of (cond r (f (k.says x)) wrong_kind).label ≡ root_of (on_one k f (label_at a x)).label
-  one_value f r told = rw (k.seen a x, ← told) (ap (λ (t : Term). root_of t.label) (sym (with_one (same_whole a k.tag) (k.says x) f)))
+  pub one_value : (f : A → Term) (s : Bool) → same_whole a.tag k.tag ≡ s → root_of (cond s (f (k.says a.datum)) wrong_kind).label ≡ root_of (on_one k f (label_of a)).label
+  one_value f s e = rw (k.seen a.tag a.datum, ← e) (ap (λ (t : Term). root_of t.label) (sym (with_one (same_whole a.tag k.tag) (k.says a.datum) f)))
 
--- two tags as `both` has compared them
-module _ {A : Type 0} (k : Kind A) {a b : ℤ} (x y : ℤ) (fa : SFits w64 a) (fb : SFits w64 b) {r : Bool} (told : r ≡ (same_whole (to_z w64 (of_z w64 a)) k.tag && same_whole (to_z w64 (of_z w64 b)) k.tag)) where
-  both_seen : r ≡ (same_whole a k.tag && same_whole b k.tag)
-  both_seen = rw (to_z-of_z fa, to_z-of_z fb) at told
+  module _ (b : Root) where
+    pub two_value : (f : A → A → Term) (s : Bool) → s ≡ (same_whole a.tag k.tag && same_whole b.tag k.tag) → root_of (cond s (f (k.says a.datum) (k.says b.datum)) wrong_kind).label ≡ root_of (on_two k f (label_of a) (label_of b)).label
+    two_value f s e =
+        rw (k.seen a.tag a.datum, k.seen b.tag b.datum, e)
+        (ap (λ (t : Term). root_of t.label) (sym (with_two (same_whole a.tag k.tag) (same_whole b.tag k.tag) (k.says a.datum) (k.says b.datum) f)))
 
-  pub two_value : (f : A → A → Term) (s : Bool) → r ≡ s → root_of (cond s (f (k.says x) (k.says y)) wrong_kind).label ≡ root_of (on_two k f (label_at a x) (label_at b y)).label
-  two_value f s e =
-      rw (k.seen a x, k.seen b y, ← e, both_seen) (ap (λ (t : Term). root_of t.label) (sym (with_two (same_whole a k.tag) (same_whole b k.tag) (k.says x) (k.says y) f)))
+    pub three_value : (c : Root) (f : A → A → A → Term) (s u : Bool) → s ≡ (same_whole a.tag k.tag && same_whole b.tag k.tag) → same_whole c.tag k.tag ≡ u →
+        root_of (cond (s && u) (f (k.says a.datum) (k.says b.datum) (k.says c.datum)) wrong_kind).label ≡ root_of (on_three k f (label_of a) (label_of b) (label_of c)).label
+    three_value c f s u e i =
+        rw (k.seen a.tag a.datum, k.seen b.tag b.datum, k.seen c.tag c.datum, e, ← i)
+        (ap (λ (t : Term). root_of t.label)
+        (sym (with_three (same_whole a.tag k.tag) (same_whole b.tag k.tag) (same_whole c.tag k.tag) (k.says a.datum) (k.says b.datum) (k.says c.datum) f)))
 
-  pub three_value : (f : A → A → A → Term) (c z : ℤ) (s u : Bool) → r ≡ s → same_whole c k.tag ≡ u →
-      root_of (cond (s && u) (f (k.says x) (k.says y) (k.says z)) wrong_kind).label ≡ root_of (on_three k f (label_at a x) (label_at b y) (label_at c z)).label
-  three_value f c z s u e i =
-      rw (k.seen a x, k.seen b y, k.seen c z, ← e, both_seen, ← i)
-      (ap (λ (t : Term). root_of t.label) (sym (with_three (same_whole a k.tag) (same_whole b k.tag) (same_whole c k.tag) (k.says x) (k.says y) (k.says z) f)))
-
--- ---- bool.true and bool.false by their codes; a code that is none of the functions' names no function
-pub constant : (n : ℕ) (a b c : Label) → n < 2 → truth (eqb n 0) ≡ applied n a b c
-unfolding applied
-constant zero a b c h = refl
-constant (suc zero) a b c h = refl
-constant (suc (suc n)) a b c h = absurd (let f : ⊥ = omega arith in f)
-
+-- ---- a code that is none of the functions' names no function
 pub no_function_lem : (n : ℕ) (a b c : Label) → length functions ≤ n → error ≡ applied n a b c
 unfolding applied
 no_function_lem n a b c h = ap (λ (f : Function). (f.meaning (leaves a b c)).label) (sym (get_or-eq_default functions no_function h))
-
--- ---- the empty dictionary
-pub empty_value : (a b c : Label) → dictionary 0 ≡ applied 15 a b c
-unfolding applied
-empty_value a b c = refl
 
 -- ---- symbols
 pub is_symbol : (t d : ℤ) → lt_z t (pos 8) ≡ false → label_at t d ≡ symbol (of_z w64 d)
@@ -157,20 +144,18 @@ no_symbol (pos (suc (suc (suc n)))) d h = rw (lt-leb 5 n (omega (arith, ltb-true
     pick false = refl
 no_symbol (negsuc n) d h = refl
 
--- ---- the ranges of z.share
+-- ---- a product within the ranges of z.share
 module _ (x y z : ℤ) where
-  pub share_out : share_range x y z ≡ false → error ≡ (share_of x y z).label
-  share_out e = rw e
-
   pub share_in : share_range x y z ≡ true → whole (nearest (x *ℤ y) z) ≡ (share_of x y z).label
   share_in e = rw e
 
--- ---- a sum or a difference that was tested first: z as the machine computes it, y as the table has it
-pub in_word_lem : (z : ℤ) → in_word z ≡ true → SFits w64 z
-in_word_lem z e = record { sfits = ltb-true (mag z) (2 ^ 63) e }
+-- ---- a sum or a difference, by whether it fits a word
+pub word_in : (z : ℤ) → SFits w64 z → leaf (whole z) ≡ whole_term z
+word_in z f = rw (lt-ltb (mag z) (2 ^ 63) f.sfits)
 
-pub whole_in : (z y : ℤ) → z ≡ y → in_word z ≡ true → whole (to_z w64 (of_z w64 z)) ≡ (whole_term y).label
-whole_in z y q e = rw (← q, to_z-of_z (in_word_lem z e), e)
-
-pub whole_out : (z y : ℤ) → z ≡ y → in_word z ≡ false → error ≡ (whole_term y).label
-whole_out z y q e = rw (← q, e)
+pub word_out : (z : ℤ) → (SFits w64 z → ⊥) → wrong_kind ≡ whole_term z
+word_out z f = go (ltb (mag z) (2 ^ 63)) refl
+  where
+    go : (b : Bool) → ltb (mag z) (2 ^ 63) ≡ b → wrong_kind ≡ cond b (leaf (whole z)) wrong_kind
+    go true e = absurd (f (record { sfits = ltb-true (mag z) (2 ^ 63) e }))
+    go false e = refl

@@ -8,13 +8,13 @@ use Rattle.minuska.specs.Word.{ok, encode}
 use Rattle.minuska.specs.Function.{argument, interpret}
 use Rattle.minuska.proofs.Tests.{and_left, and_right}
 use Rattle.value.specs.Builtin.{root_of, applied, ByRoots}
-use Rattle.value.specs.Root.{given}
 use Rattle.value.specs.Value.{value_words, Within, IsValue}
+use Rattle.value.specs.declared.Value.TheVariants.{Computed}
 use Rattle.value.proofs.InterpretLaw.{interpret_is, interpret_fine}
 
 module _ (table config : List ℤ) (c : ℕ) (xs : Forest) (n : ByRoots c) where
-  pub given_is : IsValue table config (given (root_of (applied c (argument 0 xs) (argument 1 xs) (argument 2 xs)))) (interpret c xs)
-  unfolding value_words Within given root_of
+  pub given_is : IsValue table config (Computed (root_of (applied c (argument 0 xs) (argument 1 xs) (argument 2 xs)))) (interpret c xs)
+  unfolding value_words Within root_of
   given_is =
       let t = interpret c xs in
       let f = interpret_fine xs c n in

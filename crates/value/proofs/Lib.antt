@@ -1,7 +1,5 @@
-pub mod Shift
-pub mod Checked
+pub mod SignedLaw
 pub mod BuiltinLaw
-pub mod ShareLaw
 pub mod InterpretLaw
 pub mod RootLaw
 pub mod WordsLaw
@@ -10,10 +8,11 @@ pub mod ArityLaw
 pub mod ExpressionLaw
 pub mod GivenLaw
 pub mod MeantLaw
-pub mod FindLaw
+pub mod EntriesLaw
+pub mod SearchLaw
 pub mod LookupLaw
-pub mod SlotLaw
 pub mod UpdateLaw
 pub mod WritingLaw
 pub mod ConditionLaw
 pub mod ShortLaw
+pub mod CallLaw

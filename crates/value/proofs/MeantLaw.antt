@@ -9,7 +9,7 @@ use lib.IntN.{ℤ, pos}
 use lib.Signed.{lt_z}
 use lib.ListN.{length, take, drop, get_or, length-append}
 use borrow.Author.Tests.{lt-ltb, le-ltb}
-use Rattle.minuska.specs.Term.{Label, Forest, nil, node, Term, cons, single, term_count, Role, a_variable, a_call, plain, role, is_ground}
+use Rattle.minuska.specs.Term.{Label, error, Forest, nil, node, Term, cons, single, term_count, Role, a_variable, a_call, plain, role, is_ground}
 use Rattle.minuska.specs.Word.{ok, encode}
 use Rattle.minuska.specs.Function.{argument, interpret}
 use Rattle.minuska.specs.Satisfaction.{Valuation}
@@ -17,9 +17,10 @@ use Rattle.minuska.specs.Bridge.Place.{part, Stands}
 use Rattle.minuska.proofs.ValueLaw.{value_iff_evaluates}
 use Rattle.minuska.specs.Bridge.Walk.{looking}
 use Rattle.value.specs.Builtin.{root_of, applied, ByRoots}
-use Rattle.value.specs.Root.{given, PartOrError}
+use Rattle.value.specs.Root.{PartOrError}
 use Rattle.value.specs.Value.{value_words, Within, IsValue}
 use Rattle.value.specs.Evaluate.{HasValue, HaveValues, Where, Meant, EvaluateContract, FirstMeant, first_of, first_term, rest_of}
+use Rattle.term.specs.declared.Span.{Span}
 use Rattle.value.specs.declared.Value.{Value}
 use Rattle.value.specs.declared.Value.TheVariants.{Table, Configuration, Computed}
 use Rattle.value.specs.declared.Evaluated.{Evaluated}
@@ -75,13 +76,13 @@ two_looked (node l cs nil) = refl
 two_looked (node l cs (node m ms ss)) = refl
 
 module _ (table config : List ℤ) where
-  pub table_value : (t : Term) (from to : ℕ) → T (ok (single t)) → T (is_ground (single t)) → Stands table from (encode (single t)) → to ≡ from + length (encode (single t)) → IsValue table config (Table from to) t
+  pub table_value : (t : Term) (from to : ℕ) → T (ok (single t)) → T (is_ground (single t)) → Stands table from (encode (single t)) → to ≡ from + length (encode (single t)) → IsValue table config (Table (record { from = from; to = to })) t
   unfolding value_words Within
   table_value t from to o g s e =
       let w = s.within in
       record { good = o; grounded = g; words = part_of table from to (encode (single t)) s e; within = (omega arith, omega arith) }
 
-  pub configuration_value : (t : Term) (from to : ℕ) → T (ok (single t)) → T (is_ground (single t)) → Stands config from (encode (single t)) → to ≡ from + length (encode (single t)) → IsValue table config (Configuration from to) t
+  pub configuration_value : (t : Term) (from to : ℕ) → T (ok (single t)) → T (is_ground (single t)) → Stands config from (encode (single t)) → to ≡ from + length (encode (single t)) → IsValue table config (Configuration (record { from = from; to = to })) t
   unfolding value_words Within
   configuration_value t from to o g s e =
       let w = s.within in
@@ -93,33 +94,32 @@ module _ (table config : List ℤ) where
     placed e t r y q w = subst⁻¹ (λ (z : Role). Where table config starts ends at z t r) q w
 
     -- a variable's, from its number and what was read in the arrays there
-    pub variable_meant : (e t : Term) (v : VariableHere table config starts ends at ρ e t) (i : ℕ) → i ≡ v.number → (from to : ℕ) → from ≡ get_or starts i 0 → to ≡ get_or ends i 0 → Meant table config starts ends at e t (record { value = Configuration from to; next = at + 2 })
-    variable_meant e t v i q from to start stop =
+    pub variable_meant : (e t : Term) (v : VariableHere table config starts ends at ρ e t) (i : ℕ) → i ≡ v.number → (p : Span) → p ≡ record { from = get_or starts i 0; to = get_or ends i 0 } → Meant table config starts ends at e t (record { value = Configuration p; next = at + 2 })
+    variable_meant e t v i q p s =
         let b = v.bound in
-        let r : Evaluated = record { value = Configuration (get_or starts v.number 0) (get_or ends v.number 0); next = at + 2 } in
-        rw (start, stop, q)
-        (record { is = configuration_value t _ _ b.good b.grounded b.stands b.ends; place = placed e t r (a_variable v.number) v.role_is refl; next = ap (λ (n : ℕ). at + n) (sym v.long) })
+        rw (s, q)
+        (record { is = configuration_value t _ _ b.good b.grounded b.stands b.ends; place = placed e t _ (a_variable v.number) v.role_is refl; next = ap (λ (n : ℕ). at + n) (sym v.long) })
 
-    pub ground_meant : (e t : Term) → HasValue table config starts ends at ρ e t → GroundHere table config starts ends at ρ e t → (r : ℕ) → r ≡ at + length (encode (single e)) → Meant table config starts ends at e t (record { value = Table at r; next = r })
+    pub ground_meant : (e t : Term) → HasValue table config starts ends at ρ e t → GroundHere table config starts ends at ρ e t → (r : ℕ) → r ≡ at + length (encode (single e)) → Meant table config starts ends at e t (record { value = Table (record { from = at; to = r }); next = r })
     ground_meant e t w g r q =
         record {
-          is = subst (λ (y : Term). IsValue table config (Table at r) y) g.is (table_value e at r w.placed.good g.grounded w.placed.stands q);
-          place = placed e t (record { value = Table at r; next = r }) plain g.role_is refl;
+          is = subst (λ (y : Term). IsValue table config (Table (record { from = at; to = r })) y) g.is (table_value e at r w.placed.good g.grounded w.placed.stands q);
+          place = placed e t (record { value = Table (record { from = at; to = r }); next = r }) plain g.role_is refl;
           next = q;
         }
 
     -- a literal without children
-    pub literal_meant : (e t : Term) → HasValue table config starts ends at ρ e t → lt_z (get_or table at (pos 0)) (pos 3) ≡ true → Meant table config starts ends at e t (record { value = Table at (at + 2); next = at + 2 })
+    pub literal_meant : (e t : Term) → HasValue table config starts ends at ρ e t → lt_z (get_or table at (pos 0)) (pos 3) ≡ true → Meant table config starts ends at e t (record { value = Table (record { from = at; to = at + 2 }); next = at + 2 })
     literal_meant e t w h = let g = is_literal table config starts ends at ρ e t w h in ground_meant e t w g.0 (at + 2) (ap (λ (n : ℕ). at + n) (sym g.1))
 
     -- ---- a call: its value is what its function gives
-    pub call_meant : (e t : Term) (k : CallHere table config starts ends at ρ e t) → (k.code ≡ looking → ⊥) → (r : Evaluated) → r.value ≡ given (root_of (applied k.code (argument 0 k.terms) (argument 1 k.terms) (argument 2 k.terms))) → r.next ≡ at + length (encode (single e)) → Meant table config starts ends at e t r
+    pub call_meant : (e t : Term) (k : CallHere table config starts ends at ρ e t) → (k.code ≡ looking → ⊥) → (r : Evaluated) → r.value ≡ Computed (root_of (applied k.code (argument 0 k.terms) (argument 1 k.terms) (argument 2 k.terms))) → r.next ≡ at + length (encode (single e)) → Meant table config starts ends at e t r
     call_meant e t k f r q n =
         let b : ByRoots k.code = (f, k.no_update) in
         record {
           is = subst (IsValue table config r.value) k.is (subst⁻¹ (λ (v : Value). IsValue table config v (interpret k.code k.terms)) q (given_is table config k.code k.terms b));
           place = placed e t r (a_call k.code) k.role_is
-              (record { computed = λ g. q ∙ ap (λ (l : Label). given (root_of l)) (given_root table config k.code k.terms b ∙ ap (λ (y : Term). y.label) k.is); looked = λ g. absurd (f g) });
+              (record { computed = λ g. q ∙ ap (λ (l : Label). Computed (root_of l)) (given_root table config k.code k.terms b ∙ ap (λ (y : Term). y.label) k.is); looked = λ g. absurd (f g) });
           next = n;
         }
 
@@ -133,8 +133,8 @@ module _ (table config : List ℤ) where
         }
 
     -- ---- the first of a list
-    pub none_first : (es xs : Forest) → (es ≡ nil) × (xs ≡ nil) → FirstMeant table config starts ends at es xs (record { value = Computed (pos 0) (pos 0); next = at })
-    unfolding value_words Within
+    pub none_first : (es xs : Forest) → (es ≡ nil) × (xs ≡ nil) → FirstMeant table config starts ends at es xs (record { value = Computed (root_of error); next = at })
+    unfolding value_words Within root_of
     none_first es xs q = rw (q.0, q.1) (record { is = record { good = tt; grounded = tt; words = refl; within = tt }; next = omega arith })
 
     pub some_first : (es xs : Forest) (m : MoreHere table config starts ends at ρ es xs) (r : Evaluated) → Meant table config starts ends at m.expression m.term r → FirstMeant table config starts ends at es xs r

@@ -1,7 +1,7 @@
 -- The root that a ground node's two words say, and the two words of a term's root.
 use mathlib.Core.Path.{◌≡◌, refl, sym, ◌∙◌, ap, ap₂}
 use mathlib.Core.Bool.{Bool, true, false, ◌&&◌, cond}
-use mathlib.Core.List.{List, [], ◌∷◌, ◌++◌}
+use mathlib.Core.List.{List, [], ◌++◌}
 use Prim.Native.Nat.{ℕ, suc, ◌+◌, ◌-◌, ◌<◌}
 use native.Mathlib.Omega.{arith}
 use lib.Dec.{T, eqb, leb}
@@ -16,27 +16,30 @@ use Rattle.minuska.proofs.Tests.{and_left}
 use Rattle.minuska.proofs.NodeLaw.{children_right}
 use Rattle.minuska.proofs.WordLaw.{okay, head_okay}
 use Rattle.minuska.proofs.Bridge.PlaceLaw.{two_words}
-use Rattle.value.specs.Builtin.{label_at}
+use Rattle.term.specs.declared.Span.{Span}
+use Rattle.value.specs.Builtin.{label_at, label_of, root_of}
 use Rattle.value.specs.Root.{Head, root_at}
+use Rattle.value.specs.Value.{value_words, IsValue}
+use Rattle.value.specs.declared.Value.TheVariants.{Table, Configuration, Computed}
 use Rattle.value.specs.declared.builtin.Root.{Root}
 
 -- the label that a ground node's words say is the node's
-label_of : (l : Label) (k : ℕ) → T (ground_at (role l)) → label_at (tag_word l k) (datum_word l) ≡ l
+label_said : (l : Label) (k : ℕ) → T (ground_at (role l)) → label_at (tag_word l k) (datum_word l) ≡ l
 unfolding label_at
-label_of error k g = refl
-label_of (truth true) k g = refl
-label_of (truth false) k g = refl
-label_of (whole z) k g = refl
-label_of (variable v) k g = absurd g
-label_of (call c) k g = absurd g
-label_of (symbol s) k g =
+label_said error k g = refl
+label_said (truth true) k g = refl
+label_said (truth false) k g = refl
+label_said (whole z) k g = refl
+label_said (variable v) k g = absurd g
+label_said (call c) k g = absurd g
+label_said (symbol s) k g =
     let n : 8 + k ≡ suc (suc (suc (5 + k))) = omega arith in
     let e : leb 5 (5 + k) ≡ true = le-leb 5 (5 + k) (omega arith) in
     ap (λ (m : ℕ). label_at (pos m) (pos s)) n ∙ ap (λ (b : Bool). cond b (symbol s) (cond (eqb (5 + k) 2) (dictionary s) error)) e
-label_of (dictionary n) k g = refl
+label_said (dictionary n) k g = refl
 
 pub label_is : (r : Root) (l : Label) (k : ℕ) → Head r l k → label_at r.tag r.datum ≡ l
-label_is r l k h = ap₂ label_at h.tag h.datum ∙ label_of l k h.grounded
+label_is r l k h = ap₂ label_at h.tag h.datum ∙ label_said l k h.grounded
 
 -- its child count
 pub children_is : (r : Root) (l : Label) (k : ℕ) → Head r l k → k ≡ children_at r.tag r.datum
@@ -61,17 +64,27 @@ there ws at n t o g e =
     let r = w.room in
     record { room = omega arith; head = own_head t (root_at ws at) o g w.first w.second }
 
-pub root_there : (ws : List ℤ) (from to : ℕ) (t : Term) → T (ok (single t)) → T (is_ground (single t)) → part ws from to ≡ encode (single t) → RootThere ws from t
+root_there : (ws : List ℤ) (from to : ℕ) (t : Term) → T (ok (single t)) → T (is_ground (single t)) → part ws from to ≡ encode (single t) → RootThere ws from t
 root_there ws from to t o g e = there ws from (to - from) t o g e
 
 pub root_stands : (ws : List ℤ) (at : ℕ) (t : Term) → T (ok (single t)) → T (is_ground (single t)) → Stands ws at (encode (single t)) → RootThere ws at t
 root_stands ws at t o g s = there ws at (length (encode (single t))) t o g s.words
 
 -- error's own words
-pub error_root : label_at (pos 0) (pos 0) ≡ error
-unfolding label_at
-error_root = refl
+pub error_label : label_of (root_of error) ≡ error
+unfolding label_at root_of
+error_label = refl
 
--- the root of the term whose words are two
-pub own_root : (x y : ℤ) (t : Term) → T (ok (single t)) → T (is_ground (single t)) → x ∷ y ∷ [] ≡ encode (single t) → Head (record { tag = x; gap = 0; datum = y }) t.label (term_count t.children)
-own_root x y t o g e = own_head t (record { tag = x; gap = 0; datum = y }) o g (ap (λ (l : List ℤ). get_or l 0 (pos 0)) e) (ap (λ (l : List ℤ). get_or l 1 (pos 0)) e)
+-- ---- the root of a value, by where it is
+module _ (table config : List ℤ) (t : Term) where
+  pub table_root : (s : Span) → IsValue table config (Table s) t → RootThere table s.from t
+  unfolding value_words
+  table_root s i = root_there table s.from s.to t i.good i.grounded i.words
+
+  pub configuration_root : (s : Span) → IsValue table config (Configuration s) t → RootThere config s.from t
+  unfolding value_words
+  configuration_root s i = root_there config s.from s.to t i.good i.grounded i.words
+
+  pub computed_root : (r : Root) → IsValue table config (Computed r) t → Head r t.label (term_count t.children)
+  unfolding value_words
+  computed_root r i = own_head t r i.good i.grounded (ap (λ (l : List ℤ). get_or l 0 (pos 0)) i.words) (ap (λ (l : List ℤ). get_or l 1 (pos 0)) i.words)

@@ -13,8 +13,13 @@ use Rattle.minuska.specs.Term.{error, Forest, nil, node, Term, cons, single, ter
 use Rattle.minuska.specs.Word.{encode}
 use Rattle.minuska.specs.Function.{argument, function_at}
 use Rattle.minuska.specs.Satisfaction.{Valuation}
+use Rattle.minuska.specs.Bridge.Walk.{looking}
 use Rattle.value.specs.Evaluate.{HasValue, first_of, rest_of}
 use Rattle.value.specs.Short.{Short}
+use Rattle.term.specs.declared.Span.{Span}
+use Rattle.value.proofs.SignedLaw.{abs_back}
+use Rattle.value.proofs.RootLaw.{RootThere, root_stands}
+use Rattle.value.proofs.CallLaw.{read_at}
 use Rattle.value.proofs.ExpressionLaw.{CallHere, is_variable, is_literal, is_more, no_more}
 use Rattle.value.proofs.MeantLaw.{first_long}
 
@@ -32,6 +37,14 @@ below_four (pos (suc (suc (suc (suc n))))) h = absurd (let k : suc (suc (suc (su
 below_four (negsuc n) h = inr refl
 
 module _ (table config : List ℤ) (starts ends : List ℕ) (at : ℕ) (ρ : Valuation) where
+  -- what a variable stands for stands where its part starts
+  pub variable_root : (e t : Term) → HasValue table config starts ends at ρ e t → get_or table at (pos 0) ≡ pos 3 → (p : Span) → p ≡ record { from = get_or starts (read_at table (at + 1)) 0; to = get_or ends (read_at table (at + 1)) 0 } → RootThere config p.from t
+  variable_root e t w q p s =
+      let v = is_variable table config starts ends at ρ e t w q in
+      let b = v.bound in
+      let h = v.small in
+      rw (s, abs_back _ v.number v.datum (omega arith)) (root_stands _ _ t b.good b.grounded b.stands)
+
   -- a short argument has two words
   pub short_long : (e t : Term) → HasValue table config starts ends at ρ e t → lt_z (get_or table at (pos 0)) (pos 4) ≡ true → length (encode (single e)) ≡ 2
   short_long e t w h = go (below_four (get_or table at (pos 0)) h)
@@ -82,13 +95,27 @@ module _ (table config : List ℤ) (starts ends : List ℕ) (at : ℕ) (ρ : Val
         three = sym (ap (argument 2) whole);
       }
 
+-- the two arguments of a short call
+module _ (table config : List ℤ) (starts ends : List ℕ) (at : ℕ) (ρ : Valuation) (e t : Term) (k : CallHere table config starts ends at ρ e t) (s : Short table at) where
+  pub arguments : TwoHere table config starts ends at ρ e t k
+  arguments = two_here table config starts ends at ρ e t k (ap (λ (n : ℕ). (function_at n).arity) (sym (ap nat_abs k.datum)) ∙ s.two)
+
+  pub no_lookup : k.code ≡ looking → ⊥
+  no_lookup q = s.no_lookup (ap nat_abs k.datum ∙ q)
+
+  long_first : length (encode (single arguments.a)) ≡ 2
+  long_first = short_long table config starts ends (at + 2) ρ arguments.a arguments.x arguments.first s.first
+
+  pub second_at : HasValue table config starts ends (at + 4) ρ arguments.b arguments.y
+  second_at =
+      let l = long_first in
+      let q : at + 2 + length (encode (single arguments.a)) ≡ at + 4 = omega arith in
+      subst (λ (n : ℕ). HasValue table config starts ends n ρ arguments.b arguments.y) q arguments.second
+
+  pub six : 6 ≡ length (encode (single e))
+  six = let a = long_first in let b = short_long table config starts ends (at + 4) ρ arguments.b arguments.y second_at s.second in let c = arguments.long in omega arith
+
 module _ (table config : List ℤ) (starts ends : List ℕ) (at : ℕ) (ρ : Valuation) where
   -- such a call has six words
   pub call_long : (e t : Term) (k : CallHere table config starts ends at ρ e t) → Short table at → length (encode (single e)) ≡ 6
-  call_long e t k s =
-      let h = two_here table config starts ends at ρ e t k (ap (λ (n : ℕ). (function_at n).arity) (sym (ap nat_abs k.datum)) ∙ s.two) in
-      let l = short_long table config starts ends (at + 2) ρ h.a h.x h.first s.first in
-      let q : at + 2 + length (encode (single h.a)) ≡ at + 4 = omega arith in
-      let m = short_long table config starts ends (at + 4) ρ h.b h.y (subst (λ (n : ℕ). HasValue table config starts ends n ρ h.b h.y) q h.second) s.second in
-      let j = h.long in
-      omega arith
+  call_long e t k s = sym (six table config starts ends at ρ e t k s)

@@ -49,9 +49,9 @@ module _ (table config : List ℤ) (starts ends : List ℕ) (at : ℕ) where
 
   -- where the value is: a variable's part of the configuration, a literal's part of the table; a call's as its function gives it
   abbrev pub Where : Role → Term → Evaluated → Type 0
-  Where (a_variable v) t r = r.value ≡ Configuration (get_or starts v 0) (get_or ends v 0)
+  Where (a_variable v) t r = r.value ≡ Configuration (record { from = get_or starts v 0; to = get_or ends v 0 })
   Where (a_call c) t r = Given c t r.value
-  Where plain t r = r.value ≡ Table at r.next
+  Where plain t r = r.value ≡ Table (record { from = at; to = r.next })
 
   pub record Meant (e t : Term) (r : Evaluated) : Type 0 where
     pub is : IsValue table config r.value t
@@ -66,6 +66,11 @@ module _ (table config : List ℤ) (starts ends : List ℕ) (at : ℕ) where
   pub record CallIn : Type 0 where
     pub expression : ExpressionIn
     pub tag : get_or table at (pos 0) ≡ pos 4
+
+  -- A VARIABLE OR A LITERAL
+  pub record LeafIn : Type 0 where
+    pub expression : ExpressionIn
+    pub tag : get_or table at (pos 0) ≡ pos 4 → ⊥
 
   -- AN ARGUMENT LIST: its first value, error where there is none. The rest of the list stands behind it.
   pub record HaveValues (ρ : Valuation) (es xs : Forest) : Type 0 where
@@ -85,16 +90,6 @@ module _ (table config : List ℤ) (starts ends : List ℕ) (at : ℕ) where
 
   pub record ArgumentsContract (wanted : Bool) (r : Evaluated) : Type 0 where
     pub meant : (ρ : Valuation) (es xs : Forest) → HaveValues ρ es xs → wanted ≡ ltb 0 (term_count es) → FirstMeant es xs r
-
--- A VARIABLE OR A LITERAL: its value is found in the table and the arrays, whatever the configuration holds there.
-module _ (table : List ℤ) (starts ends : List ℕ) (at : ℕ) where
-  pub record LeafIn : Type 0 where
-    pub config : List ℤ
-    pub expression : ExpressionIn table config starts ends at
-    pub tag : get_or table at (pos 0) ≡ pos 4 → ⊥
-
-  pub record LeafContract (r : Evaluated) : Type 0 where
-    pub over : (config : List ℤ) → EvaluateContract table config starts ends at r
 
 -- A SIDE CONDITION: two expressions one behind the other, both with a value.
 module _ (table config : List ℤ) (starts ends : List ℕ) (at : ℕ) where

@@ -1,8 +1,10 @@
 pub mod Builtin
 pub mod Value
 pub mod Root
+pub mod Search
 pub mod Lookup
 pub mod Update
 pub mod Evaluate
 pub mod Short
 pub mod Copy
+pub mod Scope

@@ -1,5 +1,5 @@
 -- A lookup: where the value at a key of a dictionary stands, and the value of a call of map.lookup.
-use Rattle.std.specs.Prelude.{◌≡◌, List, ℕ, ◌+◌, T, ℤ, pos, length}
+use Rattle.std.specs.Prelude.{MatchOption, ◌≡◌, List, ℕ, ◌+◌, T, ℤ, pos, length}
 use Rattle.std.proofs.Math.Option.{Option, none, some}
 use Rattle.minuska.specs.Basics.{◌>>=◌}
 use Rattle.minuska.specs.Term.{Term, cons, single, is_ground}
@@ -10,10 +10,9 @@ use Rattle.minuska.specs.Bridge.Place.{Stands}
 use Rattle.minuska.specs.Bridge.Walk.{looking}
 use Rattle.value.specs.Root.{PartOrError}
 use Rattle.value.specs.Value.{IsValue}
+use Rattle.std.specs.Prelude as S
+use Rattle.term.specs.declared.Span.{Span}
 use Rattle.value.specs.declared.Value.{Value}
-use Rattle.value.specs.declared.Value.TheVariants.{Table, Configuration, Computed}
-use Rattle.value.specs.declared.lookup.Found.{Found}
-use Rattle.value.specs.declared.lookup.Found.TheVariants.{At, Absent}
 
 -- a ground term stands at a place
 pub record TermHere (ws : List ℤ) (at : ℕ) (t : Term) : Type 0 where
@@ -29,29 +28,23 @@ pub record TermIn (ws : List ℤ) (at : ℕ) : Type 0 where
 abbrev pub value_of : ℤ → Term → Option Term
 value_of k t = as_dictionary t >>= find k
 
+-- a part, or none
+abbrev pub Part : Type 0
+Part = S.Option Span
+
 -- WHAT IS FOUND: where that value stands, exactly if there is one
-pub record FoundTerm (ws : List ℤ) (o : Option Term) (from to : ℕ) : Type 0 where
+pub record FoundTerm (ws : List ℤ) (o : Option Term) (r : Span) : Type 0 where
   pub term : Term
   pub is : o ≡ some term
-  pub stands : Stands ws from (encode (single term))
-  pub ends : to ≡ from + length (encode (single term))
+  pub stands : Stands ws r.from (encode (single term))
+  pub ends : r.to ≡ r.from + length (encode (single term))
 
-abbrev pub Finds : List ℤ → Option Term → Found → Type 0
-Finds ws o (At from to) = FoundTerm ws o from to
-Finds ws o Absent = o ≡ none
+abbrev pub Finds : List ℤ → Option Term → Part → Type 0
+Finds ws o r = MatchOption r (o ≡ none) (FoundTerm ws o)
 
 -- of whatever ground term stands there
-pub record FoundIs (ws : List ℤ) (at : ℕ) (key : ℤ) (r : Found) : Type 0 where
+pub record FoundIs (ws : List ℤ) (at : ℕ) (key : ℤ) (r : Part) : Type 0 where
   pub is : (t : Term) → TermHere ws at t → Finds ws (value_of key t) r
-
--- as a value: a part of the slice where it was found; "error if absent"
-unfoldable pub table_part : Found → Value
-table_part (At from to) = Table from to
-table_part Absent = Computed (pos 0) (pos 0)
-
-unfoldable pub configuration_part : Found → Value
-configuration_part (At from to) = Configuration from to
-configuration_part Absent = Computed (pos 0) (pos 0)
 
 -- THE VALUE OF A LOOKUP, of whatever terms its arguments' values are
 pub record LookupContract (table config : List ℤ) (d k r : Value) : Type 0 where

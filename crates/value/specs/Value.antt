@@ -8,38 +8,38 @@ use Rattle.value.specs.declared.Value.TheVariants.{Table, Configuration, Compute
 
 -- "a part of the table or a part of the configuration"; a computed value is two words of its own
 unfoldable pub value_words : List ℤ → List ℤ → Value → List ℤ
-value_words table config (Table from to) = part table from to
-value_words table config (Configuration from to) = part config from to
-value_words table config (Computed t d) = t ∷ d ∷ []
+value_words table config (Table s) = part table s.from s.to
+value_words table config (Configuration s) = part config s.from s.to
+value_words table config (Computed r) = r.tag ∷ r.datum ∷ []
 
 -- the part of either slice that holds the value; none holds a computed one
 unfoldable pub part_words : List ℤ → List ℤ → Value → List ℤ
-part_words table config (Table from to) = part table from to
-part_words table config (Configuration from to) = part config from to
-part_words table config (Computed t d) = []
+part_words table config (Table s) = part table s.from s.to
+part_words table config (Configuration s) = part config s.from s.to
+part_words table config (Computed r) = []
 
 -- the words of its own; none has meaning elsewhere
 unfoldable pub own_words : Value → List ℤ
-own_words (Table from to) = pos 0 ∷ pos 0 ∷ []
-own_words (Configuration from to) = pos 0 ∷ pos 0 ∷ []
-own_words (Computed t d) = t ∷ d ∷ []
+own_words (Table s) = pos 0 ∷ pos 0 ∷ []
+own_words (Configuration s) = pos 0 ∷ pos 0 ∷ []
+own_words (Computed r) = r.tag ∷ r.datum ∷ []
 
 -- the part lies within its slice
 unfoldable pub Within : List ℤ → List ℤ → Value → Type 0
-Within table config (Table from to) = (from ≤ to) × (to ≤ length table)
-Within table config (Configuration from to) = (from ≤ to) × (to ≤ length config)
-Within table config (Computed t d) = Unit {0}
+Within table config (Table s) = (s.from ≤ s.to) × (s.to ≤ length table)
+Within table config (Configuration s) = (s.from ≤ s.to) × (s.to ≤ length config)
+Within table config (Computed r) = Unit {0}
 
 -- how many words; the part's ends are in order
 unfoldable pub size_of : Value → ℕ
-size_of (Table from to) = to - from
-size_of (Configuration from to) = to - from
-size_of (Computed t d) = 2
+size_of (Table s) = s.to - s.from
+size_of (Configuration s) = s.to - s.from
+size_of (Computed r) = 2
 
 unfoldable pub Ordered : Value → Type 0
-Ordered (Table from to) = from ≤ to
-Ordered (Configuration from to) = from ≤ to
-Ordered (Computed t d) = Unit {0}
+Ordered (Table s) = s.from ≤ s.to
+Ordered (Configuration s) = s.from ≤ s.to
+Ordered (Computed r) = Unit {0}
 
 -- the value is this ground term
 pub record IsValue (table config : List ℤ) (v : Value) (t : Term) : Type 0 where

@@ -1,285 +1,245 @@
-// The built-in functions, on the roots of their arguments: two words each, tag and datum.
-ghost use Rattle.std.specs.Prelude.{◌≡◌, ◌&&◌, cond, ◌≤◌, leb, nat_abs};
+// The built-in functions, on the roots of their arguments.
+ghost use Rattle.std.specs.Prelude.{◌≡◌, ◌&&◌, cond};
 ghost use Rattle.minuska.specs.Basics.{same_whole};
 ghost use Rattle.minuska.specs.Term.{Label, error, truth, whole, dictionary};
 ghost use Rattle.minuska.specs.Function.{wrong_kind, truth_term, share_range, share_of};
-ghost use Rattle.value.specs.Builtin.{label_at, root_of, applied, ByRoots};
+ghost use Rattle.value.specs.Builtin.{label_of, root_of, applied, ByRoots, code_of, Decodes};
 
 use crate::rounding::nearest;
-use term::{DICTIONARY, SYMBOL, TRUTH, WHOLE};
+use term::{DICTIONARY, ERROR, SYMBOL, TRUTH, WHOLE};
 
-// The root of a term: the two words of its first node. The gap lies between them: they are written one by one, and would else be read back as one, for which a
-// machine has to wait.
-#[derive(Clone, Copy)]
+// The largest amount that z.share takes.
+const SHARE_MOST: u64 = 2147483647;
+
+// The root of a term: the two words of its first node.
+#[derive(Clone, Copy, PartialEq, Eq)]
 pub struct Root {
     pub tag: i64,
-    pub gap: usize,
     pub datum: i64,
 }
 
-// The value of the function of a code; a code that names none, and an argument of another kind, give error. The codes go by groups, each a range. A lookup's value
-// and an update's are not given by the roots of their arguments: see `lookup.rt`.
-pub fn apply(code: usize, a: i64, x: i64, b: i64, y: i64, c: i64, z: i64) -> Root
-    requires { ByRoots code }
-    ensures { result ≡ root_of (applied code (label_at a x) (label_at b y) (label_at c z)) }
-{
-    match code {
-        0..=7 => on_truths(code, a, x, b, y),
-        8..=9 => arithmetic(code, a, x, b, y),
-        10..=12 => comparison(code, a, x, b, y),
-        13..=15 => on_others(code, a, x, b, y, c, z),
-        _ => an_error(),
+// The nodes that functions give.
+impl Root {
+    #[tactic(auto, unfolding(crate::specs::Builtin::root_of))]
+    pub fn error() -> Root
+        ensures { result ≡ root_of error }
+    {
+        Root {
+            tag: ERROR,
+            datum: 0,
+        }
     }
-}
 
-// bool.true, bool.false, bool.neg, bool.and, bool.or, bool.eq, bool.is, z.is.
-fn on_truths(code: usize, a: i64, x: i64, b: i64, y: i64) -> Root
-    requires { code ≤ 7 }
-    ensures { (l : Label) → result ≡ root_of (applied code (label_at a x) (label_at b y) l) }
-{
-    if code < 2 {
-        return a_truth(code == 0);
-    }
-    if code == 2 {
-        return neg(a, x);
-    }
-    if code == 6 {
-        return a_truth(a == TRUTH);
-    }
-    if code == 7 {
-        return a_truth(a == WHOLE);
-    }
-    logic(code, a, x, b, y)
-}
-
-// bool.and, bool.or, bool.eq.
-fn logic(code: usize, a: i64, x: i64, b: i64, y: i64) -> Root
-    requires { (3 ≤ code) × (code ≤ 5) }
-    ensures { (l : Label) → result ≡ root_of (applied code (label_at a x) (label_at b y) l) }
-{
-    if code == 3 {
-        return truth_of_two(TRUTH, a, b, (x == 1) & (y == 1));
-    }
-    if code == 4 {
-        return truth_of_two(TRUTH, a, b, (x == 1) | (y == 1));
-    }
-    truth_of_two(TRUTH, a, b, (x == 1) == (y == 1))
-}
-
-// z.plus, z.minus.
-fn arithmetic(code: usize, a: i64, x: i64, b: i64, y: i64) -> Root
-    requires { (8 ≤ code) × (code ≤ 9) }
-    ensures { (l : Label) → result ≡ root_of (applied code (label_at a x) (label_at b y) l) }
-{
-    if code == 8 {
-        return plus(a, x, b, y);
-    }
-    minus(a, x, b, y)
-}
-
-// z.eq, z.le, z.lt.
-fn comparison(code: usize, a: i64, x: i64, b: i64, y: i64) -> Root
-    requires { (10 ≤ code) × (code ≤ 12) }
-    ensures { (l : Label) → result ≡ root_of (applied code (label_at a x) (label_at b y) l) }
-{
-    if code == 10 {
-        return truth_of_two(WHOLE, a, b, x == y);
-    }
-    if code == 11 {
-        return truth_of_two(WHOLE, a, b, x <= y);
-    }
-    truth_of_two(WHOLE, a, b, x < y)
-}
-
-// term.same_symbol, z.share, map.empty.
-fn on_others(code: usize, a: i64, x: i64, b: i64, y: i64, c: i64, z: i64) -> Root
-    requires { (13 ≤ code) × (code ≤ 15) }
-    ensures { result ≡ root_of (applied code (label_at a x) (label_at b y) (label_at c z)) }
-{
-    if code == 13 {
-        return same_symbol(a, x, b, y);
-    }
-    if code == 14 {
-        return share(a, x, b, y, c, z);
-    }
-    an_empty()
-}
-
-// The nodes that functions give: error, a truth value, a whole number, the empty dictionary.
-pub fn an_error() -> Root
-    ensures { result ≡ root_of error }
-{
-    Root {
-        tag: 0,
-        gap: 0,
-        datum: 0,
-    }
-}
-
-pub fn a_truth(b: bool) -> Root
-    ensures { result ≡ root_of (truth b) }
-{
-    if b {
-        return Root {
+    #[tactic(auto, unfolding(crate::specs::Builtin::root_of))]
+    pub fn truth(holds: bool) -> Root
+        ensures { result ≡ root_of (truth holds) }
+    {
+        Root {
             tag: TRUTH,
-            gap: 0,
-            datum: 1,
-        };
+            datum: holds as i64,
+        }
     }
-    Root {
-        tag: TRUTH,
-        gap: 0,
-        datum: 0,
+
+    #[tactic(auto, unfolding(crate::specs::Builtin::root_of))]
+    pub fn whole(z: i64) -> Root
+        ensures { result ≡ root_of (whole z) }
+    {
+        Root {
+            tag: WHOLE,
+            datum: z,
+        }
+    }
+
+    #[tactic(auto, unfolding(crate::specs::Builtin::root_of))]
+    pub fn empty() -> Root
+        ensures { result ≡ root_of (dictionary 0) }
+    {
+        Root {
+            tag: DICTIONARY,
+            datum: 0,
+        }
     }
 }
 
-pub fn a_whole(z: i64) -> Root
-    ensures { result ≡ root_of (whole z) }
-{
-    Root {
-        tag: WHOLE,
-        gap: 0,
-        datum: z,
+// The functions whose value the roots of their arguments give, in the order of their codes. A lookup's and an update's value is not: see `lookup.rt`, `update.rt`.
+#[derive(Clone, Copy, PartialEq, Eq)]
+pub enum Function {
+    BoolTrue,
+    BoolFalse,
+    BoolNeg,
+    BoolAnd,
+    BoolOr,
+    BoolEq,
+    BoolIs,
+    ZIs,
+    ZPlus,
+    ZMinus,
+    ZEq,
+    ZLe,
+    ZLt,
+    TermSameSymbol,
+    ZShare,
+    MapEmpty,
+}
+
+// A code that names no such function.
+#[derive(Clone, Copy, PartialEq, Eq)]
+pub struct OtherCode;
+
+impl TryFrom<usize> for Function {
+    type Error = OtherCode;
+
+    ghost try_from_gives = { Decodes };
+
+    fn try_from(code: usize) -> Result<Function, OtherCode> {
+        match code {
+            0 => Ok(Function::BoolTrue),
+            1 => Ok(Function::BoolFalse),
+            2 => Ok(Function::BoolNeg),
+            3 => Ok(Function::BoolAnd),
+            4 => Ok(Function::BoolOr),
+            5 => Ok(Function::BoolEq),
+            6 => Ok(Function::BoolIs),
+            7 => Ok(Function::ZIs),
+            8 => Ok(Function::ZPlus),
+            9 => Ok(Function::ZMinus),
+            10 => Ok(Function::ZEq),
+            11 => Ok(Function::ZLe),
+            12 => Ok(Function::ZLt),
+            13 => Ok(Function::TermSameSymbol),
+            14 => Ok(Function::ZShare),
+            15 => Ok(Function::MapEmpty),
+            16.. => Err(OtherCode),
+        }
     }
 }
 
-pub fn an_empty() -> Root
-    ensures { result ≡ root_of (dictionary 0) }
+impl Function {
+    // The value at arguments with these roots; an argument of another kind gives error.
+    fn at(self, a: Root, b: Root, c: Root) -> Root
+        ensures { result ≡ root_of (applied (code_of self) (label_of a) (label_of b) (label_of c)) }
+    {
+        match self {
+            Function::BoolTrue => Root::truth(true),
+            Function::BoolFalse => Root::truth(false),
+            Function::BoolNeg => neg(a),
+            Function::BoolAnd => truth_of_two(TRUTH, a, b, (a.datum == 1) & (b.datum == 1)),
+            Function::BoolOr => truth_of_two(TRUTH, a, b, (a.datum == 1) | (b.datum == 1)),
+            Function::BoolEq => truth_of_two(TRUTH, a, b, (a.datum == 1) == (b.datum == 1)),
+            Function::BoolIs => Root::truth(a.tag == TRUTH),
+            Function::ZIs => Root::truth(a.tag == WHOLE),
+            Function::ZPlus => plus(a, b),
+            Function::ZMinus => minus(a, b),
+            Function::ZEq => truth_of_two(WHOLE, a, b, a.datum == b.datum),
+            Function::ZLe => truth_of_two(WHOLE, a, b, a.datum <= b.datum),
+            Function::ZLt => truth_of_two(WHOLE, a, b, a.datum < b.datum),
+            Function::TermSameSymbol => same_symbol(a, b),
+            Function::ZShare => share(a, b, c),
+            Function::MapEmpty => Root::empty(),
+        }
+    }
+}
+
+// The value of the function of a code; a code that names none gives error.
+pub fn apply(code: usize, a: Root, b: Root, c: Root) -> Root
+    requires { ByRoots code }
+    ensures { result ≡ root_of (applied code (label_of a) (label_of b) (label_of c)) }
 {
-    Root {
-        tag: DICTIONARY,
-        gap: 0,
-        datum: 0,
+    match Function::try_from(code) {
+        Ok(function) => function.at(a, b, c),
+        Err(_) => Root::error(),
     }
 }
 
 // bool.neg.
-pub fn neg(a: i64, x: i64) -> Root
-    ensures { result ≡ root_of (applied 2 (label_at a x) error error) }
+fn neg(a: Root) -> Root
+    ensures { result ≡ root_of (applied 2 (label_of a) error error) }
 {
-    if a == TRUTH {
-        return a_truth(x != 1);
+    if a.tag == TRUTH {
+        return Root::truth(a.datum != 1);
     }
-    an_error()
+    Root::error()
 }
 
-// Whether both tags are a kind's.
-pub fn both(kind: i64, a: i64, b: i64) -> bool
-    ensures { result ≡ (same_whole a kind && same_whole b kind) }
+// Whether both nodes are of a kind.
+fn both(kind: i64, a: Root, b: Root) -> bool
+    ensures { result ≡ (same_whole a.tag kind && same_whole b.tag kind) }
 {
-    (a == kind) & (b == kind)
+    (a.tag == kind) & (b.tag == kind)
 }
 
 // A truth value, on two arguments of a kind. It makes two tests of its own: with `both` it is compiled to compute either answer and to choose.
-pub fn truth_of_two(kind: i64, a: i64, b: i64, holds: bool) -> Root
-    ensures { result ≡ root_of (cond (same_whole a kind && same_whole b kind) (truth_term holds) wrong_kind).label }
+fn truth_of_two(kind: i64, a: Root, b: Root, holds: bool) -> Root
+    ensures { result ≡ root_of (cond (same_whole a.tag kind && same_whole b.tag kind) (truth_term holds) wrong_kind).label }
 {
-    if a != kind {
-        return an_error();
+    if a.tag != kind {
+        return Root::error();
     }
-    if b != kind {
-        return an_error();
+    if b.tag != kind {
+        return Root::error();
     }
-    a_truth(holds)
+    Root::truth(holds)
 }
 
-// z.plus. By the room that y leaves: no sum is computed before it is known to fit. The tests stand here and not in a function of their own: so they are compiled
-// to jumps, which are foreseen.
-pub fn plus(a: i64, x: i64, b: i64, y: i64) -> Root
-    ensures { result ≡ root_of (applied 8 (label_at a x) (label_at b y) error) }
+// z.plus; a sum that does not fit a word gives error.
+pub fn plus(a: Root, b: Root) -> Root
+    ensures { result ≡ root_of (applied 8 (label_of a) (label_of b) error) }
 {
     if !both(WHOLE, a, b) {
-        return an_error();
+        return Root::error();
     }
-    if y < 0 {
-        if -9223372036854775808 - y <= x {
-            return a_whole(x + y);
-        }
-        return an_error();
+    match a.datum.checked_add(b.datum) {
+        Some(sum) => Root::whole(sum),
+        None => Root::error(),
     }
-    if x <= 9223372036854775807 - y {
-        return a_whole(x + y);
-    }
-    an_error()
 }
 
 // z.minus, in the same way.
-pub fn minus(a: i64, x: i64, b: i64, y: i64) -> Root
-    ensures { result ≡ root_of (applied 9 (label_at a x) (label_at b y) error) }
+pub fn minus(a: Root, b: Root) -> Root
+    ensures { result ≡ root_of (applied 9 (label_of a) (label_of b) error) }
 {
     if !both(WHOLE, a, b) {
-        return an_error();
+        return Root::error();
     }
-    if y < 0 {
-        if x <= 9223372036854775807 + y {
-            return a_whole(x - y);
-        }
-        return an_error();
+    match a.datum.checked_sub(b.datum) {
+        Some(difference) => Root::whole(difference),
+        None => Root::error(),
     }
-    if -9223372036854775808 + y <= x {
-        return a_whole(x - y);
-    }
-    an_error()
 }
 
 // term.same_symbol.
-pub fn same_symbol(a: i64, x: i64, b: i64, y: i64) -> Root
-    ensures { result ≡ root_of (applied 13 (label_at a x) (label_at b y) error) }
+fn same_symbol(a: Root, b: Root) -> Root
+    ensures { result ≡ root_of (applied 13 (label_of a) (label_of b) error) }
 {
-    if a < SYMBOL {
-        return a_truth(false);
+    if a.tag < SYMBOL || b.tag < SYMBOL {
+        return Root::truth(false);
     }
-    if b < SYMBOL {
-        return a_truth(false);
-    }
-    a_truth(x == y)
+    Root::truth(a.datum == b.datum)
 }
 
 // z.share.
-pub fn share(a: i64, x: i64, b: i64, y: i64, c: i64, z: i64) -> Root
-    ensures { result ≡ root_of (applied 14 (label_at a x) (label_at b y) (label_at c z)) }
+fn share(a: Root, b: Root, c: Root) -> Root
+    ensures { result ≡ root_of (applied 14 (label_of a) (label_of b) (label_of c)) }
 {
-    if !both(WHOLE, a, b) {
-        return an_error();
+    if both(WHOLE, a, b) && c.tag == WHOLE {
+        return quotient(a.datum, b.datum, c.datum);
     }
-    if c == WHOLE {
-        return quotient(x, y, z);
-    }
-    an_error()
+    Root::error()
 }
 
 // The ranges of z.share.
-pub fn in_range(a: i64, b: i64, c: i64) -> bool
+fn in_range(a: i64, b: i64, c: i64) -> bool
     ensures { result ≡ share_range a b c }
 {
-    if !small(a) {
-        return false;
-    }
-    if !small(b) {
-        return false;
-    }
-    if c < 1 {
-        return false;
-    }
-    c <= 2147483647
-}
-
-pub fn small(x: i64) -> bool
-    ensures { result ≡ leb (nat_abs x) 2147483647 }
-{
-    if x < -2147483647 {
-        return false;
-    }
-    x <= 2147483647
+    a.unsigned_abs() <= SHARE_MOST && b.unsigned_abs() <= SHARE_MOST && 1 <= c && c <= 2147483647
 }
 
 // Within the ranges the product fits.
-pub fn quotient(a: i64, b: i64, c: i64) -> Root
+fn quotient(a: i64, b: i64, c: i64) -> Root
     ensures { result ≡ root_of (share_of a b c).label }
 {
     if in_range(a, b, c) {
-        let product = a * b;
-        return a_whole(nearest(product, c));
+        return Root::whole(nearest(a * b, c));
     }
-    an_error()
+    Root::error()
 }

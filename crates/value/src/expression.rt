@@ -1,70 +1,51 @@
 // An expression's value needs its argument list, and an argument list its expressions: two functions that call each other.
-ghost use Rattle.value.specs.Evaluate.{CallIn, EvaluateContract, ArgumentsIn, ArgumentsContract};
+ghost use Rattle.value.specs.Scope.{CallHere, EvaluateIs, ArgumentsHere, ArgumentsAre};
 
-use crate::builtin::apply;
-use crate::leaf::{given, leaf, root};
-use crate::lookup::lookup;
-use crate::{Evaluated, Value};
-use term::{CALL, LOOKUP, Places};
+use crate::builtin::{Root, apply};
+use crate::{Evaluated, Scope, Value};
+use term::{CALL, LOOKUP};
 
-// The value of a call, from its arguments, three at most, one behind the other: of a lookup from their values, of any other from their roots.
-#[cycle(arguments_expression)]
-pub fn expression(
-    table: &[i64],
-    configuration: &[i64],
-    at: usize,
-    starts: &Places,
-    ends: &Places,
-) -> Evaluated
-    requires { CallIn table.now configuration.now starts.now ends.now at }
-    ensures { EvaluateContract table.now configuration.now starts.now ends.now at result }
-{
-    let code = term::word(table, at + 1) as usize;
-    let count = term::arity(code);
-    let first = arguments(table, configuration, at + 2, 0 < count, starts, ends);
-    let second = arguments(table, configuration, first.next, 1 < count, starts, ends);
-    let third = arguments(table, configuration, second.next, 2 < count, starts, ends);
-    let u = first.value;
-    let v = second.value;
-    let w = third.value;
-    if code == LOOKUP {
-        return Evaluated {
-            value: lookup(table, configuration, u, v),
-            next: third.next,
+impl<'a> Scope<'a> {
+    // The value of a call, from its arguments, three at most, one behind the other: of a lookup from their values, of any other from their roots.
+    #[cycle(arguments_expression)]
+    pub fn expression(&self, at: usize) -> Evaluated
+        requires { CallHere self.now at }
+        ensures { EvaluateIs self.now at result }
+    {
+        let code = self.table[at + 1] as usize;
+        let count = term::arity(code);
+        let first = self.arguments(at + 2, 0 < count);
+        let second = self.arguments(first.next, 1 < count);
+        let third = self.arguments(second.next, 2 < count);
+        let value = if code == LOOKUP {
+            self.lookup(first.value, second.value)
+        } else {
+            let a = self.root(first.value);
+            let b = self.root(second.value);
+            let c = self.root(third.value);
+            Value::Computed(apply(code, a, b, c))
         };
-    }
-    let a = root(table, configuration, u);
-    let b = root(table, configuration, v);
-    let c = root(table, configuration, w);
-    let r = apply(code, a.tag, a.datum, b.tag, b.datum, c.tag, c.datum);
-    Evaluated {
-        value: given(r),
-        next: third.next,
-    }
-}
-
-// The value of the first of the arguments that stand from a place on, the rest behind it; where none is wanted, error. A call gets the slices as parts, [..], so
-// that this function can keep its own in registers.
-#[cycle(arguments_expression)]
-fn arguments(
-    table: &[i64],
-    configuration: &[i64],
-    at: usize,
-    wanted: bool,
-    starts: &Places,
-    ends: &Places,
-) -> Evaluated
-    requires { ArgumentsIn table.now configuration.now starts.now ends.now at wanted }
-    ensures { ArgumentsContract table.now configuration.now starts.now ends.now at wanted result }
-{
-    if wanted {
-        if term::word(table, at) == CALL {
-            return expression(&table[..], &configuration[..], at, starts, ends);
+        Evaluated {
+            value,
+            next: third.next,
         }
-        return leaf(table, at, starts, ends);
     }
-    Evaluated {
-        value: Value::Computed(0, 0),
-        next: at,
+
+    // The value of the first of the arguments that stand from a place on, the rest behind it; where none is wanted, error.
+    #[cycle(arguments_expression)]
+    fn arguments(&self, at: usize, wanted: bool) -> Evaluated
+        requires { ArgumentsHere self.now at wanted }
+        ensures { ArgumentsAre self.now at wanted result }
+    {
+        if !wanted {
+            return Evaluated {
+                value: Value::Computed(Root::error()),
+                next: at,
+            };
+        }
+        if self.table[at] == CALL {
+            return self.expression(at);
+        }
+        self.leaf(at)
     }
 }

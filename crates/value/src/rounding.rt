@@ -7,36 +7,17 @@ pub fn nearest(z: i64, c: i64) -> i64
     requires { (nat_abs z < 2 ^ 63) × (pos 1 ≤ℤ c) × (c ≤ℤ pos 2147483647) }
     ensures { result ≡ nearest z c }
 {
-    let n = amount(z);
-    let d = c as usize;
-    let rounded = nearest_amount(n, d) as i64;
-    if z < 0 {
-        return 0 - rounded;
-    }
-    rounded
-}
-
-// A number without its sign.
-pub fn amount(z: i64) -> usize
-    requires { nat_abs z < 2 ^ 63 }
-    ensures { result ≡ nat_abs z }
-{
-    if z < 0 {
-        return (0 - z) as usize;
-    }
-    z as usize
+    let rounded = nearest_amount(z.unsigned_abs(), c as u64) as i64;
+    if z < 0 { -rounded } else { rounded }
 }
 
 // The quotient, or the next number: where twice the rest, one more at an odd quotient, is above d. So an exact half goes to the even one.
-pub fn nearest_amount(n: usize, d: usize) -> usize
+fn nearest_amount(n: u64, d: u64) -> u64
     requires { (0 < d) × (d ≤ 2147483647) }
     ensures { result ≡ nearest_nat n d }
 {
     let low = n / d;
     let rest = n % d;
     let doubled = 2 * rest + low % 2;
-    if d < doubled {
-        return low + 1;
-    }
-    low
+    if d < doubled { low + 1 } else { low }
 }

@@ -1,55 +1,53 @@
 // Whether two values have the same words.
 ghost use Rattle.std.specs.Prelude.{◌≡◌, ◌+◌};
 ghost use Rattle.minuska.specs.Bridge.Place.{Decides};
-ghost use Rattle.value.specs.Value.{value_words, own_words, Within};
-ghost use Rattle.value.specs.Root.{ValueIn, NodeIn};
+ghost use Rattle.value.specs.Scope.{IsWithin, IsValueHere, IsNodeHere, words_of};
+ghost use Rattle.value.specs.Value.{own_words};
 
-use crate::leaf::{root, root_at};
-use crate::{Value, part};
+use crate::leaf::root_at;
+use crate::{Scope, Value};
 
-// Whether two values have the same words: no copy of a part is made.
-pub fn same<'a>(table: &'a [i64], configuration: &'a [i64], a: Value, b: Value) -> bool
-    requires { Within table.now configuration.now a × Within table.now configuration.now b }
-    ensures { Decides result (value_words table.now configuration.now a ≡ value_words table.now configuration.now b) }
-{
-    let x = own_words(a);
-    let y = own_words(b);
-    words::same(
-        words_of(table, configuration, &x, a),
-        words_of(table, configuration, &y, b),
-    )
-}
-
-// The two words of a computed value.
-pub fn own_words(v: Value) -> [i64; 2]
-    ensures { result ≡ own_words v }
-{
-    match v {
-        Value::Computed(tag, datum) => [tag, datum],
-        _ => [0, 0],
+impl Value {
+    // The two words of a computed value.
+    #[tactic(auto, unfolding(crate::specs::Value::own_words))]
+    fn own_words(self) -> [i64; 2]
+        ensures { result ≡ own_words self }
+    {
+        match self {
+            Value::Computed(root) => [root.tag, root.datum],
+            _ => [0, 0],
+        }
     }
 }
 
-// A value's words: its part, or, of a computed value, its own.
-fn words_of<'a>(table: &'a [i64], configuration: &'a [i64], own: &'a [i64], v: Value) -> &'a [i64]
-    requires { Within table.now configuration.now v × (own.now ≡ own_words v) }
-    ensures { result.now ≡ value_words table.now configuration.now v }
-{
-    match v {
-        Value::Computed(_, _) => own,
-        _ => part(table, configuration, v),
+impl<'a> Scope<'a> {
+    // Whether two values have the same words: no copy of a part is made.
+    pub fn same(&self, a: Value, b: Value) -> bool
+        requires { IsWithin self.now a × IsWithin self.now b }
+        ensures { Decides result (words_of self.now a ≡ words_of self.now b) }
+    {
+        let x = a.own_words();
+        let y = b.own_words();
+        words::same(self.words(&x, a), self.words(&y, b))
     }
-}
 
-// Whether a value is the one node that stands at a place of the table: their roots are compared.
-pub fn is_node(table: &[i64], configuration: &[i64], v: Value, at: usize) -> bool
-    requires { ValueIn table.now configuration.now v × NodeIn table.now configuration.now at }
-    ensures { Decides result (value_words table.now configuration.now v ≡ value_words table.now configuration.now (Value.Table at (at + 2))) }
-{
-    let a = root(table, configuration, v);
-    let b = root_at(table, at);
-    if a.tag != b.tag {
-        return false;
+    // A value's words: its part, or, of a computed value, its own.
+    #[tactic(auto, unfolding(crate::specs::Value::own_words, crate::specs::Value::value_words, crate::specs::Value::part_words))]
+    fn words<'b>(&'b self, own: &'b [i64], v: Value) -> &'b [i64]
+        requires { IsWithin self.now v × (own.now ≡ own_words v) }
+        ensures { result.now ≡ words_of self.now v }
+    {
+        match v {
+            Value::Computed(_) => own,
+            _ => self.part(v),
+        }
     }
-    a.datum == b.datum
+
+    // Whether a value is the one node that stands at a place of the table: their roots are compared.
+    pub fn is_node(&self, v: Value, at: usize) -> bool
+        requires { IsValueHere self.now v × IsNodeHere self.now at }
+        ensures { Decides result (words_of self.now v ≡ words_of self.now (Value.Table (record { from = at; to = at + 2 }))) }
+    {
+        self.root(v) == root_at(self.table, at)
+    }
 }

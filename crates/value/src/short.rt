@@ -2,53 +2,49 @@
 // from the roots of its arguments.
 ghost use Rattle.std.specs.Prelude.{◌≡◌, true};
 ghost use Rattle.term.specs.TermAt.{TermEnds};
-ghost use Rattle.value.specs.Short.{CallThere, Short, ShortIn, ShortContract, ArgumentIn, ArgumentContract};
+ghost use Rattle.value.specs.Scope.{ShortHere, ShortIs, ArgumentHere, ArgumentIs};
+ghost use Rattle.value.specs.Short.{CallThere, Short};
 
+use crate::Scope;
 use crate::builtin::{Root, apply};
 use crate::leaf::root_at;
-use term::{CALL, LOOKUP, Places, VARIABLE};
+use term::{CALL, LOOKUP, VARIABLE};
 
 // Whether the call that stands at a place is such a call.
 pub fn is_short_call(table: &[i64], at: usize) -> bool
     requires { CallThere table.now at }
     ensures { result ≡ true → Short table.now at }
 {
-    let code = term::word(table, at + 1) as usize;
-    let count = term::arity(code);
-    if count != 2 {
+    let code = table[at + 1] as usize;
+    if term::arity(code) != 2 || code == LOOKUP {
         return false;
     }
-    if code == LOOKUP {
-        return false;
-    }
-    if term::word(table, at + 2) < CALL {
-        return term::word(table, at + 4) < CALL;
-    }
-    false
+    table[at + 2] < CALL && table[at + 4] < CALL
 }
 
-// The root of its value.
-pub fn short_call(table: &[i64], configuration: &[i64], at: usize, starts: &Places) -> Root
-    requires { ShortIn table.now configuration.now starts.now at }
-    ensures { ShortContract table.now configuration.now starts.now at result }
-{
-    let code = term::word(table, at + 1) as usize;
-    let a = short_root(table, configuration, at + 2, starts);
-    let b = short_root(table, configuration, at + 4, starts);
-    apply(code, a.tag, a.datum, b.tag, b.datum, 0, 0)
-}
-
-// The root of such an argument's value.
-fn short_root(table: &[i64], configuration: &[i64], at: usize, starts: &Places) -> Root
-    requires { ArgumentIn table.now configuration.now starts.now at }
-    ensures { ArgumentContract table.now configuration.now starts.now at result }
-{
-    if term::word(table, at) == VARIABLE {
-        let v = term::word(table, at + 1) as usize;
-        let start = term::place_of(starts, v);
-        return root_at(configuration, start);
+impl<'a> Scope<'a> {
+    // The root of its value.
+    pub fn short_call(&self, at: usize) -> Root
+        requires { ShortHere self.now at }
+        ensures { ShortIs self.now at result }
+    {
+        let code = self.table[at + 1] as usize;
+        let a = self.short_root(at + 2);
+        let b = self.short_root(at + 4);
+        apply(code, a, b, Root::error())
     }
-    root_at(table, at)
+
+    // The root of such an argument's value.
+    fn short_root(&self, at: usize) -> Root
+        requires { ArgumentHere self.now at }
+        ensures { ArgumentIs self.now at result }
+    {
+        if self.table[at] == VARIABLE {
+            let part = self.places.part(self.table[at + 1] as usize);
+            return root_at(self.configuration, part.from);
+        }
+        root_at(self.table, at)
+    }
 }
 
 // The place behind the call that stands at a place: a short call has six words.

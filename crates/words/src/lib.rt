@@ -11,15 +11,11 @@ pub fn number_at(words: &[i64], at: usize) -> usize
     requires { at < length words.now }
     ensures { result ≡ nat_of (get_or words.now at (pos 0)) }
 {
-    let word = words[at];
-    if word < 0 {
-        return 0;
-    }
-    word as usize
+    usize::try_from(words[at]).unwrap_or(0)
 }
 
 pub fn put(words: &mut [i64], at: usize, number: usize)
-    requires { (at < length words.old) × (number < 2 ^ 32) }
+    requires { (at < length words.old) × (number < 2 ^ 63) }
     ensures { words.new ≡ set words.old at (pos number) }
 {
     words[at] = number as i64;
@@ -30,11 +26,7 @@ pub fn copy(to: &mut [i64], at: usize, from: &[i64])
     requires { at + length from.now ≤ length to.old }
     ensures { to.new ≡ paste to.old at from.now (length from.now) }
 {
-    let mut i = 0;
-    while i < from.len() {
-        to[at + i] = from[i];
-        i += 1;
-    }
+    to[at..at + from.len()].copy_from_slice(from);
 }
 
 // Copies `count` words within a slice, from `from` on to `to` on, behind them. Two parts of one lent slice cannot be had at once, so `copy` does not serve.
@@ -42,53 +34,28 @@ pub fn copy_up(words: &mut [i64], from: usize, to: usize, count: usize)
     requires { (from + count ≤ to) × (to + count ≤ length words.old) }
     ensures { words.new ≡ paste words.old to (take count (drop from words.old)) count }
 {
-    let mut i = 0;
-    while i < count {
-        words[to + i] = words[from + i];
-        i += 1;
-    }
+    words.copy_within(from..from + count, to);
 }
 
 // Every word becomes 0.
 pub fn clear(words: &mut [i64])
     ensures { words.new ≡ replicate (length words.old) (pos 0) }
 {
-    let mut i = 0;
-    while i < words.len() {
-        words[i] = 0;
-        i += 1;
-    }
+    words.fill(0);
 }
 
 // Whether two slices hold the same words.
+#[tactic(auto, using(crate::proofs::DecideLaw::same_decides))]
 pub fn same(a: &[i64], b: &[i64]) -> bool
     ensures { Decides result (a.now ≡ b.now) }
 {
-    if a.len() != b.len() {
-        return false;
-    }
-    let mut i = 0;
-    while i < a.len() {
-        if a[i] != b[i] {
-            return false;
-        }
-        i += 1;
-    }
-    true
+    a == b
 }
 
 // The same, sooner for slices that differ in their last two words.
+#[tactic(auto, using(crate::proofs::DecideLaw::same_decides))]
 pub fn same_by_ends(a: &[i64], b: &[i64]) -> bool
     ensures { Decides result (a.now ≡ b.now) }
 {
-    if a.len() != b.len() {
-        return false;
-    }
-    if 2 < a.len() {
-        let from = a.len() - 2;
-        if !same(&a[from..], &b[from..]) {
-            return false;
-        }
-    }
-    same(a, b)
+    a.len() == b.len() && a.ends_with(&b[b.len().saturating_sub(2)..]) && a == b
 }

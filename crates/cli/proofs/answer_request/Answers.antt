@@ -1,48 +1,53 @@
--- `answer_request` meets its contract: a return for each answer of the replay.
-use mathlib.Core.Path.{sym, refl}
+-- A return for each answer of the replay.
+use mathlib.Core.Path.{refl, ap, ◌∙◌}
 use native.Mathlib.Omega.{arith}
-use Prim.Native.Nat.{◌*◌}
-use lib.Seq.{length-take-le}
+use Rattle.std.specs.Prelude.{Ok}
+use Rattle.std.proofs.lemmas.Result.{err_from_is_err_and}
+use Rattle.decimal.proofs.PrintTurn.{puts_none}
+use Rattle.cli.proofs.LinesLaw.{taken}
 use Rattle.cli.proofs.AnswerTurn.{not_reproduced_answer, refused_answer, shown}
 use Rattle.cli.proofs.answer_request.Goals as goal
 
-pub overflow_mul-end : goal.overflow_mul-end
-overflow_mul-end c =
-    let found = shown c.args.table.now c.args.configuration.now c.args.log.now c.args.limit _ _ _ _ _ _ _ c.replay_counted-answer.ensures refl refl refl c.in-Reproduced.nodes c.in-Reproduced.is c.replay_counted-answer.auto.out c.replay_counted-answer.auto.choices (2 * c.in-Reproduced.nodes) refl in
-    omega (arith, found.words_room)
+pub returns-in_err-answer : goal.returns-in_err-answer
+returns-in_err-answer c =
+    let p = err_from_is_err_and c.from_residual.result c.from_residual.ensures.1 in
+    rw (p.1, p.2) (puts_none _, refused_answer _ _ _ _ _ _ _ _ _ _ _ c.replay_counted.ensures refl refl refl _ c.in_err-answer.was)
 
 pub slice_bounds-choices-end : goal.slice_bounds-choices-end
 slice_bounds-choices-end c =
-    let found = shown c.args.table.now c.args.configuration.now c.args.log.now c.args.limit _ _ _ _ _ _ _ c.replay_counted-answer.ensures refl refl refl c.in-Reproduced.nodes c.in-Reproduced.is c.replay_counted-answer.auto.out c.replay_counted-answer.auto.choices (2 * c.in-Reproduced.nodes) refl in
+    let found = shown _ _ _ _ _ _ _ _ _ _ _ c.replay_counted.ensures refl refl refl _ (c.in_ok-answer.was ∙ ap Ok c.in-Some.is) c.replay_counted.auto.out c.replay_counted.auto.choices _ refl in
     found.choices_room
 
 pub slice_bounds-put_reproduced-end : goal.slice_bounds-put_reproduced-end
 slice_bounds-put_reproduced-end c =
-    let found = shown c.args.table.now c.args.configuration.now c.args.log.now c.args.limit _ _ _ _ _ _ _ c.replay_counted-answer.ensures refl refl refl c.in-Reproduced.nodes c.in-Reproduced.is c.replay_counted-answer.auto.out c.replay_counted-answer.auto.choices (2 * c.in-Reproduced.nodes) refl in
-    sym (length-take-le _ _ found.choices_room)
+    let found = shown _ _ _ _ _ _ _ _ _ _ _ c.replay_counted.ensures refl refl refl _ (c.in_ok-answer.was ∙ ap Ok c.in-Some.is) c.replay_counted.auto.out c.replay_counted.auto.choices _ refl in
+    taken _ _ found.choices_room
+
+pub overflow_mul-out : goal.overflow_mul-out
+overflow_mul-out c =
+    let found = shown _ _ _ _ _ _ _ _ _ _ _ c.replay_counted.ensures refl refl refl _ (c.in_ok-answer.was ∙ ap Ok c.in-Some.is) c.replay_counted.auto.out c.replay_counted.auto.choices _ refl in
+    omega (arith, found.words_room)
 
 pub slice_bounds-out-end : goal.slice_bounds-out-end
 slice_bounds-out-end c =
-    let found = shown c.args.table.now c.args.configuration.now c.args.log.now c.args.limit _ _ _ _ _ _ _ c.replay_counted-answer.ensures refl refl refl c.in-Reproduced.nodes c.in-Reproduced.is c.replay_counted-answer.auto.out c.replay_counted-answer.auto.choices (2 * c.in-Reproduced.nodes) refl in
+    let found = shown _ _ _ _ _ _ _ _ _ _ _ c.replay_counted.ensures refl refl refl _ (c.in_ok-answer.was ∙ ap Ok c.in-Some.is) c.replay_counted.auto.out c.replay_counted.auto.choices _ refl in
     found.words_room
 
-pub slice_bounds-put_reproduced-end-in-Reproduced : goal.slice_bounds-put_reproduced-end-in-Reproduced
-slice_bounds-put_reproduced-end-in-Reproduced c =
-    let found = shown c.args.table.now c.args.configuration.now c.args.log.now c.args.limit _ _ _ _ _ _ _ c.replay_counted-answer.ensures refl refl refl c.in-Reproduced.nodes c.in-Reproduced.is c.replay_counted-answer.auto.out c.replay_counted-answer.auto.choices (2 * c.in-Reproduced.nodes) refl in
-    sym (length-take-le _ _ found.words_room)
+pub slice_bounds-put_reproduced-end-in-Some : goal.slice_bounds-put_reproduced-end-in-Some
+slice_bounds-put_reproduced-end-in-Some c =
+    let found = shown _ _ _ _ _ _ _ _ _ _ _ c.replay_counted.ensures refl refl refl _ (c.in_ok-answer.was ∙ ap Ok c.in-Some.is) c.replay_counted.auto.out c.replay_counted.auto.choices _ refl in
+    taken _ _ found.words_room
 
 pub put_reproduced-requires : goal.put_reproduced-requires
 put_reproduced-requires c =
-    let found = shown c.args.table.now c.args.configuration.now c.args.log.now c.args.limit _ _ _ _ _ _ _ c.replay_counted-answer.ensures refl refl refl c.in-Reproduced.nodes c.in-Reproduced.is c.replay_counted-answer.auto.out c.replay_counted-answer.auto.choices (2 * c.in-Reproduced.nodes) refl in
+    let found = shown _ _ _ _ _ _ _ _ _ _ _ c.replay_counted.ensures refl refl refl _ (c.in_ok-answer.was ∙ ap Ok c.in-Some.is) c.replay_counted.auto.out c.replay_counted.auto.choices _ refl in
     omega (arith, found.text_room, c.requires)
 
-pub returns-in-Reproduced : goal.returns-in-Reproduced
-returns-in-Reproduced c =
-    let found = shown c.args.table.now c.args.configuration.now c.args.log.now c.args.limit _ _ _ _ _ _ _ c.replay_counted-answer.ensures refl refl refl c.in-Reproduced.nodes c.in-Reproduced.is c.replay_counted-answer.auto.out c.replay_counted-answer.auto.choices (2 * c.in-Reproduced.nodes) refl in
+pub returns-in-Some : goal.returns-in-Some
+returns-in-Some c =
+    let found = shown _ _ _ _ _ _ _ _ _ _ _ c.replay_counted.ensures refl refl refl _ (c.in_ok-answer.was ∙ ap Ok c.in-Some.is) c.replay_counted.auto.out c.replay_counted.auto.choices _ refl in
     rw found.text c.put_reproduced.ensures
 
-pub returns-in-NotReproduced : goal.returns-in-NotReproduced
-returns-in-NotReproduced c = not_reproduced_answer c.args.table.now c.args.configuration.now c.args.log.now c.args.limit _ _ _ _ _ _ _ c.replay_counted-answer.ensures refl refl refl _ _ _ c.in-NotReproduced.is c.put_not_reproduced.ensures
-
-pub returns-in-Refused : goal.returns-in-Refused
-returns-in-Refused c = refused_answer c.args.table.now c.args.configuration.now c.args.log.now c.args.limit _ _ _ _ _ _ _ c.replay_counted-answer.ensures refl refl refl _ _ _ _ c.in-Refused.is c.put_refusal.ensures
+pub returns-in-None : goal.returns-in-None
+returns-in-None c =
+    rw (not_reproduced_answer _ _ _ _ _ _ _ _ _ _ _ c.replay_counted.ensures refl refl refl (c.in_ok-answer.was ∙ ap Ok c.in-None.is)) c.put_not_reproduced.ensures

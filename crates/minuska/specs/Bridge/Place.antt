@@ -1,5 +1,5 @@
 -- Bridges to code: what stands where in a slice of words, where a table's parts stand, and what a check has established.
-use Rattle.std.specs.Prelude.{◌≡◌, Bool, true, false, cond, ◌⊎◌, List, [], ◌∷◌, ◌++◌, ℕ, ◌+◌, ◌-◌, ◌*◌, ◌%◌, ◌≤◌, ◌<◌, ℤ, pos, negsuc, T, length, take, drop, get_or}
+use Rattle.std.specs.Prelude.{◌≡◌, Bool, true, false, cond, ◌⊎◌, List, [], ◌∷◌, ℕ, ◌+◌, ◌-◌, ◌*◌, ◌%◌, ◌≤◌, ◌<◌, ℤ, pos, negsuc, T, length, take, drop, get_or}
 use Rattle.std.proofs.Math.Option.{none, some}
 use Rattle.std.proofs.Math.ListN.{get_elem?}
 use Rattle.minuska.specs.Basics.{same_whole}
@@ -10,6 +10,7 @@ use Rattle.minuska.specs.Rule.{Rule, Table, condition_words, rule_words, IsTable
 use Rattle.minuska.specs.Computed.Step.{order}
 use Rattle.minuska.specs.Bridge.Shape.{shapely}
 use Rattle.minuska.specs.Bridge.Walk.{fixed_nodes, variable_nodes}
+use Rattle.minuska.specs.declared.Row.{Row}
 
 -- the words from one place up to another
 abbrev pub part : List ℤ → ℕ → ℕ → List ℤ
@@ -85,33 +86,35 @@ root_key t = key_of (root_tag t) (datum_word t.label)
 abbrev pub RootMeets : Term → Term → Type 0
 RootMeets l g = (root_tag l ≡ pos 3) ⊎ ((root_tag l ≡ root_tag g) × (datum_word l.label ≡ datum_word g.label))
 
--- THE LAYOUT OF A TABLE'S INDEX: so many numbers a rule, in this order. They have 16 bits: places are counted from the first rule, which stands at word 1.
+-- THE LAYOUT OF A TABLE'S INDEX: a row a rule, whose numbers have 16 bits: places are counted from the first rule, which stands at word 1.
 abbrev pub first_rule : ℕ
 first_rule = 1
 
-abbrev pub per_rule : ℕ
-per_rule = 8
-
--- room for 256 rules
-abbrev pub index_length : ℕ
-index_length = 256 * per_rule
-
-abbrev pub rule_places : ℕ → Rule → List ℕ
+abbrev pub rule_places : ℕ → Rule → Row
 rule_places at r =
-    (left_from at - first_rule) ∷ (right_from at r - first_rule) ∷ (conditions_from at r - first_rule) ∷ (end_from at r - first_rule) ∷ root_key r.left ∷ r.action ∷ fixed_nodes (single r.right) ∷ variable_nodes (single r.right) ∷ []
+    record {
+      left = left_from at - first_rule;
+      right = right_from at r - first_rule;
+      conditions = conditions_from at r - first_rule;
+      end = end_from at r - first_rule;
+      key = root_key r.left;
+      action = r.action;
+      fixed = fixed_nodes (single r.right);
+      leaves = variable_nodes (single r.right);
+    }
 
-abbrev pub places_from : ℕ → Table → List ℕ
+abbrev pub places_from : ℕ → Table → List Row
 places_from at [] = []
-places_from at (r ∷ rs) = rule_places at r ++ places_from (at + length (rule_words r)) rs
+places_from at (r ∷ rs) = rule_places at r ∷ places_from (at + length (rule_words r)) rs
 
-abbrev pub places : Table → List ℕ
+abbrev pub places : Table → List Row
 places table = places_from first_rule table
 
 -- What the table's check establishes: the words are an accepted table, and the index begins with its places.
-pub record Indexed (ws : List ℤ) (index : List ℕ) : Type 0 where
+pub record Indexed (ws : List ℤ) (index : List Row) : Type 0 where
   pub table : Table
   pub is : IsTable ws table
-  pub indexed : take (per_rule * length table) index ≡ places table
+  pub indexed : take (length table) index ≡ places table
 
 -- a number that names a rule
 pub record Names (ws : List ℤ) (n : ℕ) : Type 0 where
