@@ -1,4 +1,4 @@
--- A call by its function's code: an update is no expression; the sizes of its value.
+-- A call by its function's code: an update is no expression.
 use mathlib.Core.Path.{◌≡◌, refl, sym, ap, ap₂}
 use mathlib.Core.Bool.{Bool, true, false, not, cond}
 use Prim.Native.Nat.{ℕ}
@@ -20,15 +20,3 @@ module _ (c : ℕ) where
 
   pub an_expression : (c ≡ updating → ⊥) → in_expression c ≡ true
   an_expression f = ap not (other c updating f)
-
-  pub lookup_sizes : c ≡ looking → (0 ≡ fixed_call c) × (1 ≡ leaves_call c)
-  lookup_sizes e = (sym (ap fixed_call e), sym (ap leaves_call e))
-
-  pub update_sizes : c ≡ updating → (2 ≡ fixed_call c) × (2 ≡ leaves_call c)
-  update_sizes e = (sym (ap fixed_call e), sym (ap leaves_call e))
-
-  pub other_sizes : (c ≡ looking → ⊥) → (c ≡ updating → ⊥) → (1 ≡ fixed_call c) × (0 ≡ leaves_call c)
-  other_sizes f g =
-      let a = other c looking f in
-      let b = other c updating g in
-      (sym (ap₂ (λ (x y : Bool). cond x 0 (cond y 2 1)) a b), sym (ap₂ (λ (x y : Bool). cond x 1 (cond y 2 0)) a b))

@@ -20,21 +20,7 @@ use Rattle.minuska.proofs.OrderLaw.{named_below}
 use Rattle.minuska.specs.declared.Row.{Row}
 use Rattle.table.specs.Index.{RowIs}
 
--- ---- the first word
-module _ (ws : List ℤ) (t : Table) (p : IsTable ws t) where
-  pub first_word : get_or ws 0 (pos 0) ≡ pos (length t)
-  first_word = ap (λ (xs : List ℤ). get_or xs 0 (pos 0)) (sym p.words)
-
-  pub some_words : 0 < length ws
-  some_words = let e = ap length p.words in omega arith
-
-pub rule_count_is : (ws : List ℤ) (n : ℕ) → pos n ≡ get_or ws 0 (pos 0) → RuleCountIs ws n
-rule_count_is ws n e = record { is = λ t p. same (e ∙ first_word ws t p) }
-  where
-    same : {n m : ℕ} → pos n ≡ pos m → n ≡ m
-    same q = cc
-
--- positions up to the rule count are there
+-- ---- positions up to the rule count are there
 pub positions_of : (ws : List ℤ) (count to : ℕ) → RuleCountIs ws count → to ≤ count → Positions ws to
 positions_of ws count to c h = record { there = λ t p. let e = c.is t p in let n = order_length t in omega arith }
 

@@ -105,18 +105,11 @@ pub record Head (ws : List ℤ) (at action k : ℕ) : Type 0 where
   pub reads : read_rule (drop at ws) ≡ (read_term (drop (left_from at) ws) >>= left_then action k)
 
 module _ (ws : List ℤ) (at : ℕ) (room : left_from at ≤ length ws) where
-  pub rule_action : None ≡ answered (number_below 65536 (get_or ws at (pos 0))) → read_rule (drop at ws) ≡ none
-  rule_action h =
-      ap read_rule (two_words ws at room) ∙ ap (λ (o : Option ℕ). o >>= λ n. number_below 9 (get_or ws (at + 1) (pos 0)) >>= λ m. read_term (drop (left_from at) ws) >>= left_then n m) (answered_none (number_below 65536 (get_or ws at (pos 0))) h)
-
   module _ (action : ℕ) (ha : Some action ≡ answered (number_below 65536 (get_or ws at (pos 0)))) where
     numbers : read_rule (drop at ws) ≡ (number_below 9 (get_or ws (at + 1) (pos 0)) >>= λ m. read_term (drop (left_from at) ws) >>= left_then action m)
     numbers =
         ap read_rule (two_words ws at room) ∙
         ap (λ (o : Option ℕ). o >>= λ n. number_below 9 (get_or ws (at + 1) (pos 0)) >>= λ m. read_term (drop (left_from at) ws) >>= left_then n m) (answered_some action (number_below 65536 (get_or ws at (pos 0))) ha)
-
-    pub rule_count : None ≡ answered (number_below 9 (get_or ws (at + 1) (pos 0))) → read_rule (drop at ws) ≡ none
-    rule_count h = numbers ∙ ap (λ (o : Option ℕ). o >>= λ m. read_term (drop (left_from at) ws) >>= left_then action m) (answered_none (number_below 9 (get_or ws (at + 1) (pos 0))) h)
 
     pub rule_head : (count : ℕ) → Some count ≡ answered (number_below 9 (get_or ws (at + 1) (pos 0))) → Head ws at action count
     rule_head count h =

@@ -3,9 +3,10 @@ ghost use Rattle.std.specs.Prelude.{◌≡◌, ◌≤◌, IfOk, OnOk, IfErr, Ok,
 ghost use Rattle.minuska.specs.Bridge.Place.{Indexed, Names, RuleCountIs, ActionIs, OrderedIs, Positions, SeekIs, left_words, right_words, conditions_words, PartIs, SizesAre};
 ghost use Rattle.minuska.specs.Computed.Outcome.{table_check};
 ghost use Rattle.table.specs.Checked.{Indexed-prop};
+ghost use Rattle.table.specs.Index.{RowIs};
 
-use crate::index::RightSizes;
-use minuska::{Index, Refusal};
+use crate::index::{RightSizes, place};
+use minuska::{Index, Refusal, Row};
 use term::Span;
 
 // The words of a table, and its index, which the check has filled.
@@ -31,60 +32,98 @@ impl<'a> Table<'a> {
     pub fn rules(self) -> usize
         ensures { RuleCountIs self.entry.words.now result }
     {
-        crate::rule_count(self.words, self.index)
+        self.words[0] as usize
+    }
+
+    // The row of a rule.
+    fn row(self, rule: usize) -> &'a Row
+        requires { Names self.words.now rule }
+        ensures { RowIs self.entry.words.now rule result.now }
+    {
+        &self.index[rule]
     }
 
     // A rule's action; 0 of a number that names none.
     pub fn action(self, rule: usize) -> u16
         ensures { ActionIs self.entry.words.now rule result }
     {
-        crate::action(self.words, self.index, rule)
+        if self.rules() <= rule {
+            return 0;
+        }
+        self.row(rule).action
     }
 
     // The rule at a position of the order in which rules are tried.
+    #[tactic(auto, using(crate::proofs::IndexLaw::ordered_is))]
     pub fn ordered(self, position: usize) -> usize
         ensures { OrderedIs self.entry.words.now position result }
     {
-        crate::ordered(self.words, self.index, position)
+        position
     }
 
     // A rule's left.
+    #[tactic(auto, using(crate::proofs::IndexLaw::left_is))]
     pub fn left(self, rule: usize) -> Span
         requires { Names self.words.now rule }
         ensures { PartIs left_words self.entry.words.now rule result.from result.to }
     {
-        crate::index::left(self.words, self.index, rule)
+        let row = self.row(rule);
+        Span {
+            from: place(row.left),
+            to: place(row.right),
+        }
     }
 
     // Its right.
+    #[tactic(auto, using(crate::proofs::IndexLaw::right_is_lem))]
     pub fn right(self, rule: usize) -> Span
         requires { Names self.words.now rule }
         ensures { PartIs right_words self.entry.words.now rule result.from result.to }
     {
-        crate::index::right(self.words, self.index, rule)
+        let row = self.row(rule);
+        Span {
+            from: place(row.right),
+            to: place(row.conditions),
+        }
     }
 
     // Its conditions.
+    #[tactic(auto, using(crate::proofs::IndexLaw::conditions_are))]
     pub fn conditions(self, rule: usize) -> Span
         requires { Names self.words.now rule }
         ensures { PartIs conditions_words self.entry.words.now rule result.from result.to }
     {
-        crate::index::conditions(self.words, self.index, rule)
+        let row = self.row(rule);
+        Span {
+            from: place(row.conditions),
+            to: place(row.end),
+        }
     }
 
     // The sizes of its right.
+    #[tactic(auto, using(crate::proofs::IndexLaw::sizes_are))]
     pub fn sizes(self, rule: usize) -> RightSizes
         requires { Names self.words.now rule }
         ensures { SizesAre self.entry.words.now rule result.fixed result.leaves }
     {
-        crate::index::sizes(self.words, self.index, rule)
+        let row = self.row(rule);
+        RightSizes {
+            fixed: usize::from(row.fixed),
+            leaves: usize::from(row.leaves),
+        }
     }
 
-    // The first position from one on, up to another, whose rule's left may match a configuration whose root has that key.
+    // The first position from one on, up to another, whose rule's left may match a configuration whose root has that key: the left's is a variable, or has it too.
     pub fn seek(self, root: usize, from: usize, to: usize) -> usize
         requires { Positions self.words.now to × (from ≤ to) }
         ensures { SeekIs self.entry.words.now root from to result }
     {
-        crate::key::seek(self.words, self.index, root, from, to)
+        for i in from..to {
+            let key = usize::from(self.index[self.ordered(i)].key);
+            if key == root || key == 0 {
+                return i;
+            }
+        }
+        to
     }
 }

@@ -1,8 +1,9 @@
 // The rows of a table's index: how one is made, and what it says of its rule.
 ghost use Rattle.std.specs.Prelude.{◌≡◌, ◌+◌, ◌-◌, ◌≤◌};
 ghost use Rattle.minuska.specs.Bridge.Place.{first_rule, Indexed, Names, left_words, right_words, conditions_words, PartIs, ActionIs, SizesAre};
-ghost use Rattle.table.specs.Index.{row_of, RowFits, RowIs};
+ghost use Rattle.table.specs.Index.{row_of, RowFits};
 
+use crate::checked::Table;
 use crate::key::key;
 use crate::rule::Parts;
 use minuska::{Index, Row};
@@ -22,7 +23,7 @@ pub struct RightSizes {
 }
 
 // A place from its number, and the number of a place.
-fn place(number: u16) -> usize
+pub fn place(number: u16) -> usize
     ensures { result ≡ number + first_rule }
 {
     usize::from(number) + FIRST_RULE
@@ -53,71 +54,62 @@ pub fn row_from(table: &[i64], at: usize, parts: Parts) -> Row
     }
 }
 
-// The row of a rule.
-fn row<'a>(table: &[i64], index: &'a Index, rule: usize) -> &'a Row
-    requires { Indexed table.now index.now × Names table.now rule }
-    ensures { RowIs table.now rule result.now }
-{
-    &index[rule]
-}
-
-// The left of a rule.
-#[tactic(auto, using(crate::proofs::IndexLaw::left_is))]
+// What `Table` says of words and an index that are known to be one: the left of a rule.
 pub fn left(table: &[i64], index: &Index, rule: usize) -> Span
     requires { Indexed table.now index.now × Names table.now rule }
     ensures { PartIs left_words table.now rule result.from result.to }
 {
-    let row = row(table, index, rule);
-    Span {
-        from: place(row.left),
-        to: place(row.right),
+    Table {
+        words: table,
+        index,
     }
+    .left(rule)
 }
 
 // Its right.
-#[tactic(auto, using(crate::proofs::IndexLaw::right_is_lem))]
 pub fn right(table: &[i64], index: &Index, rule: usize) -> Span
     requires { Indexed table.now index.now × Names table.now rule }
     ensures { PartIs right_words table.now rule result.from result.to }
 {
-    let row = row(table, index, rule);
-    Span {
-        from: place(row.right),
-        to: place(row.conditions),
+    Table {
+        words: table,
+        index,
     }
+    .right(rule)
 }
 
 // Its conditions.
-#[tactic(auto, using(crate::proofs::IndexLaw::conditions_are))]
 pub fn conditions(table: &[i64], index: &Index, rule: usize) -> Span
     requires { Indexed table.now index.now × Names table.now rule }
     ensures { PartIs conditions_words table.now rule result.from result.to }
 {
-    let row = row(table, index, rule);
-    Span {
-        from: place(row.conditions),
-        to: place(row.end),
+    Table {
+        words: table,
+        index,
     }
+    .conditions(rule)
 }
 
 // Its action.
-#[tactic(auto, using(crate::proofs::IndexLaw::action_is))]
 pub fn action(table: &[i64], index: &Index, rule: usize) -> u16
     requires { Indexed table.now index.now × Names table.now rule }
     ensures { ActionIs table.now rule result }
 {
-    row(table, index, rule).action
+    Table {
+        words: table,
+        index,
+    }
+    .action(rule)
 }
 
 // The sizes of its right.
-#[tactic(auto, using(crate::proofs::IndexLaw::sizes_are))]
 pub fn sizes(table: &[i64], index: &Index, rule: usize) -> RightSizes
     requires { Indexed table.now index.now × Names table.now rule }
     ensures { SizesAre table.now rule result.fixed result.leaves }
 {
-    let row = row(table, index, rule);
-    RightSizes {
-        fixed: usize::from(row.fixed),
-        leaves: usize::from(row.leaves),
+    Table {
+        words: table,
+        index,
     }
+    .sizes(rule)
 }

@@ -2,6 +2,7 @@
 ghost use Rattle.std.specs.Prelude.{◌≡◌, ◌≤◌, ◌<◌};
 ghost use Rattle.minuska.specs.Bridge.Place.{key_of, remainder, Indexed, Accepted, Positions, RootKeyIs, SeekIs};
 
+use crate::checked::Table;
 use minuska::Index;
 
 // What is left of a word by a number; nothing of one below 0.
@@ -31,16 +32,14 @@ pub fn root(configuration: &[i64]) -> usize
     usize::from(key(configuration[0], configuration[1]))
 }
 
-// The first position from one on, up to another, whose rule's left may match a configuration whose root has that key: the left's is a variable, or has it too.
+// What `Table::seek` says of words and an index that are known to be one.
 pub fn seek(table: &[i64], index: &Index, root: usize, from: usize, to: usize) -> usize
     requires { Indexed table.now index.now × Positions table.now to × (from ≤ to) }
     ensures { SeekIs table.now root from to result }
 {
-    for i in from..to {
-        let key = usize::from(index[crate::ordered(table, index, i)].key);
-        if key == root || key == 0 {
-            return i;
-        }
+    Table {
+        words: table,
+        index,
     }
-    to
+    .seek(root, from, to)
 }

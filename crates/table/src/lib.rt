@@ -17,6 +17,7 @@ ghost use Rattle.minuska.specs.Contract.{CheckTableContract};
 ghost use Rattle.minuska.specs.Bridge.Place.{Indexed, RuleCountIs, ActionIs, OrderedIs};
 ghost use Rattle.table.specs.Index.{IndexTableContract};
 
+use crate::checked::Table;
 use crate::fill::fill;
 use minuska::limits::MAX_RULES;
 use minuska::{Index, Refusal, Row};
@@ -36,30 +37,38 @@ pub fn index_table(table: &[i64], index: &mut Index) -> Result<(), Refusal>
     fill(table, index)
 }
 
-// How many rules a checked table has.
+// What `Table` says of words and an index that are known to be one: how many rules it has.
 pub fn rule_count(table: &[i64], index: &Index) -> usize
     requires { Indexed table.now index.now }
     ensures { RuleCountIs table.now result }
 {
-    table[0] as usize
+    Table {
+        words: table,
+        index,
+    }
+    .rules()
 }
 
-// The action of a checked table's rule; 0 of a number that names none.
+// The action of a rule; 0 of a number that names none.
 pub fn action(table: &[i64], index: &Index, rule: usize) -> u16
     requires { Indexed table.now index.now }
     ensures { ActionIs table.now rule result }
 {
-    if rule_count(table, index) <= rule {
-        return 0;
+    Table {
+        words: table,
+        index,
     }
-    index::action(table, index, rule)
+    .action(rule)
 }
 
 // The rule at a position of the order in which rules are tried.
-#[tactic(auto, using(crate::proofs::IndexLaw::ordered_is))]
 pub fn ordered(table: &[i64], index: &Index, position: usize) -> usize
     requires { Indexed table.now index.now }
     ensures { OrderedIs table.now position result }
 {
-    position
+    Table {
+        words: table,
+        index,
+    }
+    .ordered(position)
 }
