@@ -8,7 +8,7 @@ ghost use Rattle.value.specs.Builtin.{label_of, root_of, applied, ByRoots, code_
 use crate::rounding::nearest;
 use term::{DICTIONARY, ERROR, SYMBOL, TRUTH, WHOLE};
 
-// The largest amount that z.share takes.
+// The largest amount of a number that z.share takes.
 const SHARE_MOST: u64 = 2147483647;
 
 // The root of a term: the two words of its first node.
@@ -231,7 +231,9 @@ fn share(a: Root, b: Root, c: Root) -> Root
 fn in_range(a: i64, b: i64, c: i64) -> bool
     ensures { result ≡ share_range a b c }
 {
-    a.unsigned_abs() <= SHARE_MOST && b.unsigned_abs() <= SHARE_MOST && 1 <= c && c <= 2147483647
+    a.unsigned_abs() <= SHARE_MOST
+        && b.unsigned_abs() <= SHARE_MOST
+        && (1..=SHARE_MOST as i64).contains(&c)
 }
 
 // Within the ranges the product fits.
