@@ -1,5 +1,5 @@
 -- Rules tried one after the other: what each turn of `apply_among` says, and the two steps from it.
-use Rattle.std.specs.Prelude.{Option as StdOption, None, Result, Ok}
+use Rattle.std.specs.Prelude.{None, Result, Ok, Err}
 use Rattle.minuska.specs.declared.Refusal.{Refusal}
 use Rattle.minuska.specs.declared.Stepped.{Stepped}
 use mathlib.Core.Path.{◌≡◌, refl, sym, ◌∙◌, ap, ap₂, subst}
@@ -32,12 +32,11 @@ use Rattle.minuska.proofs.Bridge.IndexLaw.{one_table}
 use Rattle.minuska.proofs.Bridge.RootLaw.{root_misses}
 use Rattle.minuska.proofs.Bridge.PositionLaw.{element_at, element_there, order_length, order_names}
 use Rattle.table.proofs.IndexLaw.{positions_of}
-use Rattle.step.specs.declared.rule.Verdict.{Verdict}
-use Rattle.step.specs.declared.rule.Verdict.TheVariants.{Applies}
-use Rattle.step.specs.Apply.{Candidate, Matched, SomeMatched, verdict_of, JudgeIs, Instantiated}
-use Rattle.step.specs.Verdict.{VerdictIs, code}
-use Rattle.step.specs.Among.{positions, KeyFor, AmongIs, CodedAmongIs}
-use Rattle.step.proofs.ApplyLaw.{outcome_by, instantiated_answer, instantiated_out_lem, unmatched, verdict_applies, past_successor}
+use Rattle.step.specs.declared.rule.Obstacle.{Obstacle}
+use Rattle.step.specs.Apply.{Candidate, Matched, SomeMatched, Instantiated}
+use Rattle.step.specs.Verdict.{VerdictIs, JudgeIs}
+use Rattle.step.specs.Among.{positions, KeyFor, step_of, verdict_told, AmongIs}
+use Rattle.step.proofs.ApplyLaw.{outcome_by, step_by, instantiated_answer, instantiated_out_lem, unmatched, verdict_applies, past_successor}
 
 -- ---- the order from a position on
 at_position : {A : Type 0} (l : List A) (i : ℕ) (a : A) → get_elem? l i ≡ some a → drop i l ≡ a ∷ drop (suc i) l
@@ -79,25 +78,25 @@ module _ (ws cs : List ℤ) (n : ℕ) (a : Names ws n) where
   candidate t g p q =
       record { table = t; is = p; numbered = subst (λ (u : Table). get_elem? u n ≡ some a.rule) (one_table ws a.table t a.is p) a.numbered; configuration = q }
 
-  module _ (r : Verdict) (w : VerdictIs ws cs n r) (t : Table) (g : Term) (p : IsTable ws t) (q : IsConfiguration cs g) where
+  module _ (r : Result (Unit {0}) Obstacle) (w : VerdictIs ws cs n r) (t : Table) (g : Term) (p : IsTable ws t) (q : IsConfiguration cs g) where
     by_number : successor_by t n g ≡ successor a.rule g
     by_number = ap (λ (z : Option Rule). z >>= λ x. successor x g) (candidate t g p q).numbered
 
-    pub verdict_some : r ≡ Applies → (h : Term) × (successor_by t n g ≡ some h)
+    pub verdict_some : {u : Unit {0}} → r ≡ Ok u → (h : Term) × (successor_by t n g ≡ some h)
     verdict_some e =
         let c = candidate t g p q in
         let (h, s) = (verdict_applies ws cs n a.rule g c).0 (sym (w.is a.rule g c) ∙ e) in (h, by_number ∙ s)
 
-    pub verdict_none : (r ≡ Applies → ⊥) → successor_by t n g ≡ none
+    pub verdict_none : {o : Obstacle} → r ≡ Err o → successor_by t n g ≡ none
     verdict_none f = by_number ∙ go (successor a.rule g) refl
       where
         go : (s : Option Term) → successor a.rule g ≡ s → successor a.rule g ≡ none
         go none e = e
-        go (some h) e = let c = candidate t g p q in absurd (f (w.is a.rule g c ∙ (verdict_applies ws cs n a.rule g c).1 (h, e)))
+        go (some h) e = let c = candidate t g p q in absurd (let z = sym f ∙ (w.is a.rule g c ∙ (verdict_applies ws cs n a.rule g c {u = tt}).1 (h, e)) in cc)
 
-  module _ (starts ends : List ℕ) (r : Verdict) (j : JudgeIs ws cs n starts ends r) where
+  module _ (starts ends : List ℕ) (r : Result (Unit {0}) Obstacle) (j : JudgeIs ws cs n starts ends r) where
     -- ---- a rule that applies: its match, and its right's value
-    module _ (e : r ≡ Applies) (t : Table) (g : Term) (p : IsTable ws t) (q : IsConfiguration cs g) where
+    module _ {u : Unit {0}} (e : r ≡ Ok u) (t : Table) (g : Term) (p : IsTable ws t) (q : IsConfiguration cs g) where
       record Applying : Type 0 where
         valuation : Valuation
         term : Term
@@ -108,7 +107,7 @@ module _ (ws cs : List ℤ) (n : ℕ) (a : Names ws n) where
       applying : Applying
       applying =
           let c = candidate t g p q in
-          let (h, s) = (verdict_applies ws cs n a.rule g c).0 (sym (j.answer a.rule g c) ∙ e) in
+          let (h, s) = (verdict_applies ws cs n a.rule g c).0 (sym (j.verdict.is a.rule g c) ∙ e) in
           let (ρ, m, v) = came (try_match (single a.rule.left) (single g) unbound) (λ ρ. cond (hold_all ρ a.rule.conditions) (value ρ a.rule.right) none) h s in
           record { valuation = ρ; term = h; matched = record { at = c; matched = m; binds = j.binds a.rule g ρ c m }; worth = worth_of (hold_all ρ a.rule.conditions) (value ρ a.rule.right) h v; stepped = s }
         where
@@ -116,7 +115,7 @@ module _ (ws cs : List ℤ) (n : ℕ) (a : Names ws n) where
           worth_of true v h x = x
           worth_of false v h x = absurd (none-ne-some h x)
 
-    pub judged_matched : r ≡ Applies → {index : List ℕ} → Indexed ws index → Accepted cs → SomeMatched ws cs n starts ends
+    pub judged_matched : {u : Unit {0}} → r ≡ Ok u → {index : List ℕ} → Indexed ws index → Accepted cs → SomeMatched ws cs n starts ends
     judged_matched e x y =
         let z = applying e x.table y.term x.is y.is in record { rule = a.rule; configuration = y.term; valuation = z.valuation; is = z.matched }
 
@@ -153,12 +152,9 @@ module _ (ws cs : List ℤ) (first from to : ℕ) where
   pub trying_first : Trying first from
   trying_first = record { low = omega arith; only = λ e. refl; same = λ t g p q. refl }
 
-  -- what `CodedAmongIs` says of a rule alone, from its verdict
-  abbrev pub Alone : ℕ → ℕ → Type 0
-  Alone verdict verdict' = from ≡ to → verdict ≡ 0 → (rule : Rule) (g : Term) → Candidate ws cs first rule g → verdict' ≡ code (verdict_of rule g)
-
-  pub alone_by : {rule i : ℕ} → Trying rule i → (starts ends : List ℕ) (v : Verdict) → JudgeIs ws cs rule starts ends v → (verdict verdict' : ℕ) → (from ≡ to → verdict ≡ 0 → verdict' ≡ code v) → Alone verdict verdict'
-  alone_by k starts ends v j verdict verdict' f e z rule g c = f e z ∙ ap code (j.answer rule g (subst (λ (n : ℕ). Candidate ws cs n rule g) (sym (k.only e)) c))
+  -- of a rule alone its verdict is told
+  pub alone_by : {rule i : ℕ} → Trying rule i → {starts ends : List ℕ} {v : Result (Unit {0}) Obstacle} → JudgeIs ws cs rule starts ends v → {v' : Result (Unit {0}) Obstacle} → v' ≡ v → from ≡ to → VerdictIs ws cs first v'
+  alone_by k j e same = record { is = λ rule g c. e ∙ j.verdict.is rule g (subst (λ (n : ℕ). Candidate ws cs n rule g) (sym (k.only same)) c) }
 
   module _ (rule i : ℕ) (k : Trying rule i) where
     module _ (f : (t : Table) (g : Term) → IsTable ws t → IsConfiguration cs g → successor_by t rule g ≡ none) (root r : ℕ) (s : SeekIs ws root i to r) (b : Positions ws to) (key : KeyFor cs to root) where
@@ -168,16 +164,16 @@ module _ (ws cs : List ℤ) (first from to : ℕ) where
       pub trying_on : (n : ℕ) → r < to → OrderedIs ws r n → Trying n (r + 1)
       trying_on n below o = let l = k.low in let m = s.low in record { low = omega arith; only = λ e. absurd (let z : ⊥ = omega arith in z); same = λ t g p q. behind t g p q ∙ ap (λ (l : List ℕ). first_of t l g) (positions_next t r to p b below o) }
 
-      pub none_applies : (out : List ℤ) (verdict verdict' : ℕ) → to ≤ r → Alone verdict verdict' → CodedAmongIs ws cs first from to out out verdict verdict' (Ok None)
+      pub none_applies : (out : List ℤ) (o : Obstacle) → to ≤ r → (from ≡ to → VerdictIs ws cs first (Err o)) → AmongIs ws cs first from to out out (Ok (Err o))
       unfolding step_answer step_out
-      none_applies out verdict verdict' past a =
+      none_applies out o past a =
           record { alone = a; answer = λ t g p q. ap step_answer (sym (nothing t g p q)); leaves = λ t g p q. ap (λ (z : Outcome StepResult). step_out z out) (sym (nothing t g p q)) }
         where
           nothing : (t : Table) (g : Term) → IsTable ws t → IsConfiguration cs g → gives (answered t (out_limit (length out)) (first_of t (first ∷ positions from to t) g)) ≡ gives stuck
           nothing t g p q = ap (λ (z : Option (ℕ × Term)). gives (answered t (out_limit (length out)) z)) (behind t g p q ∙ ap (λ (l : List ℕ). first_of t l g) (positions_none t r to past))
 
     -- this one applies
-    module _ (a : Names ws rule) (starts ends : List ℕ) (v : Verdict) (j : JudgeIs ws cs rule starts ends v) (e : v ≡ Applies) (out out' : List ℤ) (verdict verdict' : ℕ) (r : Result (StdOption Stepped) Refusal) (w : Instantiated ws cs rule starts ends out out' r) (only : Alone verdict verdict') where
+    module _ (a : Names ws rule) (starts ends : List ℕ) (v : Result (Unit {0}) Obstacle) (j : JudgeIs ws cs rule starts ends v) {u : Unit {0}} (e : v ≡ Ok u) (out out' : List ℤ) (r : Result Stepped Refusal) (w : Instantiated ws cs rule starts ends out out' r) where
       abbrev limit : ℕ
       limit = out_limit (length out)
 
@@ -189,13 +185,13 @@ module _ (ws cs : List ℤ) (first from to : ℕ) where
           ap (λ (x : Option (ℕ × Term)). gives (answered t limit x)) (k.same t g p q ∙ ap (λ (x : Option Term). or_next rule x (first_of t (positions i to t) g)) s) ∙
           ap (λ (x : Option Rule). gives (sized limit rule (action_in x) z.term)) c.numbered
 
-      pub one_applies : CodedAmongIs ws cs first from to out out' verdict verdict' r
-      one_applies =
+      pub one_applies : {r' : Result (Result Stepped Obstacle) Refusal} → step_of r' ≡ step_by r → verdict_told r' ≡ Ok tt → AmongIs ws cs first from to out out' r'
+      one_applies same told =
           record {
-            alone = only;
+            alone = alone_by k j (told ∙ sym e);
             answer = λ t g p q.
                 let z = applying ws cs rule a starts ends v j e t g p q in
-                w.answer a.rule g z.valuation z.term z.matched z.worth ∙ (instantiated_answer limit rule a.rule.action z.term out ∙ ap step_answer (sym (outcome t g p q)));
+                same ∙ ap step_by (w.answer a.rule g z.valuation z.term z.matched z.worth) ∙ (instantiated_answer limit rule a.rule.action z.term out ∙ ap step_answer (sym (outcome t g p q)));
             leaves = λ t g p q.
                 let z = applying ws cs rule a starts ends v j e t g p q in
                 w.leaves a.rule g z.valuation z.term z.matched z.worth ∙ (instantiated_out_lem limit rule a.rule.action z.term out ∙ ap (λ (x : Outcome StepResult). step_out x out) (sym (outcome t g p q)));
@@ -203,13 +199,13 @@ module _ (ws cs : List ℤ) (first from to : ℕ) where
 
 -- ---- the step by one rule: that rule alone
 module _ (ws cs : List ℤ) (index : List ℕ) (out : List ℤ) (x : Indexed ws index) (y : Accepted cs) where
-  pub by_that_rule : (n : ℕ) (out' : List ℤ) (misfit misfit' : ℕ) (r : Result (StdOption Stepped) Refusal) → AmongIs ws cs n 0 0 out out' misfit misfit' r → StepByRuleContract ws cs n out out' r
-  by_that_rule n out' misfit misfit' r k =
+  pub by_that_rule : (n : ℕ) (out' : List ℤ) (r : Result (Result Stepped Obstacle) Refusal) → AmongIs ws cs n 0 0 out out' r → StepByRuleContract ws cs n out out' (step_of r)
+  by_that_rule n out' r k =
       let t = x.table in
       let g = y.term in
       let o : rule_outcome ws cs n (length out) ≡ gives (answered t (out_limit (length out)) (first_of t (n ∷ positions 0 0 t) g)) =
       outcome_by ws cs n out t g x.is y.is ∙ ap (λ (z : Option (ℕ × Term)). gives (answered t (out_limit (length out)) z)) (alone (successor_by t n g)) in
-      step_by_rule_contract ws cs n out out' r (k.answer t g x.is y.is ∙ ap step_answer (sym o)) (k.leaves t g x.is y.is ∙ ap (λ (z : Outcome StepResult). step_out z out) (sym o))
+      step_by_rule_contract ws cs n out out' (step_of r) (k.answer t g x.is y.is ∙ ap step_answer (sym o)) (k.leaves t g x.is y.is ∙ ap (λ (z : Outcome StepResult). step_out z out) (sym o))
     where
       alone : (s : Option Term) → with_number n s ≡ or_next n s none
       alone none = refl
@@ -256,10 +252,10 @@ module _ (ws cs : List ℤ) (index : List ℕ) (out : List ℤ) (x : Indexed ws 
           outcome_first root first key s ∙ ap (λ (l : List ℕ). gives (answered t (out_limit (length out)) (first_of t l y.term))) (positions_none t first count past) in
           step_contract ws cs out out (Ok None) (ap step_answer (sym o)) (ap (λ (z : Outcome StepResult). step_out z out) (sym o))
 
-      pub the_earliest : (n : ℕ) (out' : List ℤ) (misfit misfit' : ℕ) (r : Result (StdOption Stepped) Refusal) → first < count → OrderedIs ws first n → AmongIs ws cs n (first + 1) count out out' misfit misfit' r → StepContract ws cs out out' r
-      the_earliest n out' misfit misfit' r below o k =
+      pub the_earliest : (n : ℕ) (out' : List ℤ) (r : Result (Result Stepped Obstacle) Refusal) → first < count → OrderedIs ws first n → AmongIs ws cs n (first + 1) count out out' r → StepContract ws cs out out' (step_of r)
+      the_earliest n out' r below o k =
           let t = x.table in
           let g = y.term in
           let w : step_outcome ws cs (length out) ≡ gives (answered t (out_limit (length out)) (first_of t (n ∷ positions (first + 1) count t) g)) =
           outcome_first root first key s ∙ ap (λ (l : List ℕ). gives (answered t (out_limit (length out)) (first_of t l g))) (positions_next t first count x.is every_position below o) in
-          step_contract ws cs out out' r (k.answer t g x.is y.is ∙ ap step_answer (sym w)) (k.leaves t g x.is y.is ∙ ap (λ (z : Outcome StepResult). step_out z out) (sym w))
+          step_contract ws cs out out' (step_of r) (k.answer t g x.is y.is ∙ ap step_answer (sym w)) (k.leaves t g x.is y.is ∙ ap (λ (z : Outcome StepResult). step_out z out) (sym w))

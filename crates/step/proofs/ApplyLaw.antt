@@ -1,9 +1,11 @@
 -- One rule at one configuration, put together: its outcome, its verdict and its successor.
-use Rattle.std.specs.Prelude.{Some, Ok, Err}
+use Rattle.std.specs.Prelude.{Result, Ok, Err, Option as StdOption, Some}
+use Rattle.minuska.specs.declared.Refusal.{Refusal}
+use Rattle.minuska.specs.declared.Stepped.{Stepped}
 use mathlib.Core.Path.{◌≡◌, refl, sym, ◌∙◌, ap}
 use mathlib.Core.Bool.{Bool, true, false, cond}
 use mathlib.Core.Logic.{◌↔◌}
-use mathlib.Core.Option.{Option, none, some, none-ne-some}
+use mathlib.Core.Option.{Option, none, some}
 use mathlib.Core.List.{List, [], ◌∷◌}
 use Prim.Native.Nat.{ℕ, zero, suc, ◌*◌, ◌≤◌, ◌<◌}
 use native.Mathlib.Omega.{arith}
@@ -26,20 +28,12 @@ use Rattle.minuska.specs.Computed.Outcome.{rule_outcome}
 use Rattle.minuska.proofs.ShutLaw.{step_by_rule_is, rule_outcome_is}
 use Rattle.minuska.proofs.OutcomeLaw.{on_words_lem}
 use Rattle.minuska.proofs.Bridge.AcceptedLaw.{term_length}
-use Rattle.minuska.proofs.Good.{good}
 use Rattle.minuska.proofs.StepLaw.{rule_okay}
-use Rattle.minuska.proofs.MatchLaw.{match_sound, matches_binds}
-use Rattle.minuska.proofs.ConditionLaw.{has_value}
-use Rattle.step.specs.declared.conditions.HowFar.{HowFar}
-use Rattle.step.specs.declared.conditions.HowFar.TheVariants.{All, Until}
-use Rattle.step.specs.declared.matching.Compared.TheVariants as C
-use Rattle.step.specs.declared.rule.Verdict.TheVariants.{Applies}
-use Rattle.step.specs.Matching.{compared_by}
-use Rattle.minuska.specs.Computed.Compare.{Comparison, agreed, apart, comparison, bound_by}
-use Rattle.step.specs.Conditions.{all_of, held_by}
-use Rattle.step.specs.Apply.{Candidate, instantiated_as, instantiated_out, verdict_held, verdict_by, verdict_of}
-use Rattle.minuska.proofs.CompareLaw.{compare_match}
-use Rattle.step.proofs.ConditionsLaw.{held_all}
+use Rattle.minuska.specs.Obstacle.{Reason}
+use Rattle.minuska.specs.Computed.Reasons.{reason}
+use Rattle.minuska.proofs.ObstacleLaw.{none_applies}
+use Rattle.step.specs.Apply.{Candidate, instantiated_as, instantiated_out}
+use Rattle.step.specs.Verdict.{verdict_for, verdict_of}
 
 -- ---- whether there is room, in nodes
 module _ (limit : ℕ) (h : Term) (b : Bool) (e : b ≡ leb (length (encode (single h))) (2 * limit)) where
@@ -54,7 +48,7 @@ module _ (limit n a : ℕ) (h : Term) (out : List ℤ) where
   unfolding instantiated_as instantiated_out
   as_large x = (rw (lt-leb (node_count h) limit x), rw (lt-leb (node_count h) limit x))
 
-  pub as_stepped : node_count h ≤ limit → (Ok (Some (record { rule = n; action = a; nodes = (node_count h) })) ≡ instantiated_as limit n a h) × (write (encode (single h)) out ≡ instantiated_out limit h out)
+  pub as_stepped : node_count h ≤ limit → (Ok (record { rule = n; action = a; nodes = node_count h }) ≡ instantiated_as limit n a h) × (write (encode (single h)) out ≡ instantiated_out limit h out)
   unfolding instantiated_as instantiated_out
   as_stepped x = (rw (le-leb (node_count h) limit x), rw (le-leb (node_count h) limit x))
 
@@ -66,13 +60,17 @@ module _ (ws cs : List ℤ) (n : ℕ) (out : List ℤ) where
       (on_words_lem ws cs t g p q (λ u h. gives (step_by_rule u (out_limit (length out)) n h)) ∙
       ap {B = Outcome StepResult} gives (step_by_rule_is t (out_limit (length out)) n g))
 
--- ---- an answer with a successor
+-- ---- an answer with a successor, as a step gives it
+abbrev pub step_by : Result Stepped Refusal → Result (StdOption Stepped) Refusal
+step_by (Ok s) = Ok (Some s)
+step_by (Err r) = Err r
+
 module _ (limit n a : ℕ) (h : Term) (out : List ℤ) where
-  pub instantiated_answer : instantiated_as limit n a h ≡ step_answer (gives (sized limit n a h))
+  pub instantiated_answer : step_by (instantiated_as limit n a h) ≡ step_answer (gives (sized limit n a h))
   unfolding instantiated_as step_answer
   instantiated_answer = pick (leb (node_count h) limit)
     where
-      pick : (b : Bool) → cond b (Ok (Some (record { rule = n; action = a; nodes = (node_count h) }))) (Err OverLimit) ≡ step_answer (gives (cond b (stepped n a h) too_large))
+      pick : (b : Bool) → step_by (cond b (Ok (record { rule = n; action = a; nodes = node_count h })) (Err OverLimit)) ≡ step_answer (gives (cond b (stepped n a h) too_large))
       pick true = refl
       pick false = refl
 
@@ -84,45 +82,23 @@ module _ (limit n a : ℕ) (h : Term) (out : List ℤ) where
       pick true = refl
       pick false = refl
 
--- ---- the successor, from what matching and the conditions say
+-- ---- the successor, by the obstacle
 module _ (ws cs : List ℤ) (n : ℕ) (rule : Rule) (g : Term) (a : Candidate ws cs n rule g) where
   by_rule : (s : Option Term) → successor rule g ≡ s → successor_by a.table n g ≡ s
   by_rule s e = ap (λ (z : Option Rule). z >>= λ q. successor q g) a.numbered ∙ e
 
-  matched_by : bound_by (comparison rule.left g) ≡ try_match (single rule.left) (single g) unbound
-  matched_by = compare_match (single rule.left) (single g) unbound
-
   pub unmatched : try_match (single rule.left) (single g) unbound ≡ none → successor_by a.table n g ≡ none
   unmatched e = by_rule none (ap (λ (o : Option Valuation). o >>= λ ρ. cond (hold_all ρ rule.conditions) (value ρ rule.right) none) e)
 
-  -- all of the left's nodes agree
-  pub matched_some : (k : ℕ) → compared_by rule.left (comparison rule.left g) ≡ C.All k → (ρ : Valuation) × (comparison rule.left g ≡ agreed ρ) × (try_match (single rule.left) (single g) unbound ≡ some ρ)
-  matched_some k e = go (comparison rule.left g) refl e
-    where
-      go : (c : Comparison) → comparison rule.left g ≡ c → compared_by rule.left c ≡ C.All k → (ρ : Valuation) × (comparison rule.left g ≡ agreed ρ) × (try_match (single rule.left) (single g) unbound ≡ some ρ)
-      go (agreed ρ) p q = (ρ, p, sym matched_by ∙ ap bound_by p)
-      go (apart k) p q = absurd (let z : ◌≡◌ {A = ℕ} 0 1 = cc in let f : ⊥ = omega arith in f)
-
-  module _ (ρ : Valuation) (m : try_match (single rule.left) (single g) unbound ≡ some ρ) where
-    held : (b : Bool) → hold_all ρ rule.conditions ≡ b → successor rule g ≡ cond b (value ρ rule.right) none
-    held b e = ap (λ (o : Option Valuation). o >>= λ σ. cond (hold_all σ rule.conditions) (value σ rule.right) none) m ∙ ap (λ (c : Bool). cond c (value ρ rule.right) none) e
-
-    pub right_value : (h : Term) × (value ρ rule.right ≡ some h)
-    right_value =
-        let o = rule_okay a.table a.is.accepted n rule a.numbered in
-        has_value (single rule.left) ρ (matches_binds ρ (single rule.left) (single g) (match_sound (single rule.left) (single g) unbound ρ m).0) rule.right (good rule o).covered
-
   -- it applies exactly if it has a successor
-  pub verdict_applies : (verdict_of rule g ≡ Applies) ↔ ((h : Term) × (successor rule g ≡ some h))
-  verdict_applies = go (comparison rule.left g) matched_by
+  pub verdict_applies : {u : Unit {0}} → (verdict_of rule g ≡ Ok u) ↔ ((h : Term) × (successor rule g ≡ some h))
+  verdict_applies {u} =
+      let x = none_applies rule g (rule_okay a.table a.is.accepted n rule a.numbered) in
+      (λ e. x.0 (pick (reason rule g) e), λ s. ap verdict_for (x.1 s))
     where
-      judged : (ρ : Valuation) → try_match (single rule.left) (single g) unbound ≡ some ρ → (p : HowFar) → all_of p ≡ hold_all ρ rule.conditions → (verdict_held p ≡ Applies) ↔ ((h : Term) × (successor rule g ≡ some h))
-      judged ρ m All e = (λ q. let (h, v) = right_value ρ m in (h, held ρ m true (sym e) ∙ v), λ x. refl)
-      judged ρ m (Until k) e = (λ q. absurd (let z : ◌≡◌ {A = ℕ} 0 1 = cc in let f : ⊥ = omega arith in f), λ x. absurd (none-ne-some x.0 (sym (held ρ m false (sym e)) ∙ x.1)))
-
-      go : (c : Comparison) → bound_by c ≡ try_match (single rule.left) (single g) unbound → (verdict_by rule.conditions c ≡ Applies) ↔ ((h : Term) × (successor rule g ≡ some h))
-      go (agreed ρ) m = judged ρ (sym m) (held_by ρ rule.conditions) (held_all ρ rule.conditions)
-      go (apart k) m = (λ q. absurd (let z : ◌≡◌ {A = ℕ} 0 1 = cc in let f : ⊥ = omega arith in f), λ x. absurd (none-ne-some x.0 (ap (λ (o : Option Valuation). o >>= λ ρ. cond (hold_all ρ rule.conditions) (value ρ rule.right) none) m ∙ x.1)))
+      pick : (o : Option Reason) → verdict_for o ≡ Ok u → o ≡ none
+      pick none e = refl
+      pick (some o) e = cc
 
 -- ---- numbers that name a rule, and those that do not
 pub past_none : (t : Table) (n : ℕ) → length t ≤ n → get_elem? t n ≡ none

@@ -1,8 +1,10 @@
 -- A rule's conditions, one after the other: the turns of `hold_all`.
 use mathlib.Core.Path.{◌≡◌, refl, sym, ◌∙◌, ap, subst}
-use mathlib.Core.Bool.{Bool, true, false, ◌&&◌, cond}
+use Rattle.std.specs.Prelude.{Ok, Err}
+use mathlib.Core.Bool.{Bool, true, false, cond}
+use mathlib.Core.Option.{Option, none, some}
 use mathlib.Core.List.{List, [], ◌∷◌, ◌++◌}
-use Prim.Native.Nat.{ℕ, ◌+◌, ◌≤◌, ◌<◌}
+use Prim.Native.Nat.{ℕ, suc, ◌+◌, ◌≤◌, ◌<◌}
 use native.Mathlib.Nat.{add-zero, zero-add}
 use native.Mathlib.Omega.{arith}
 use lib.IntN.{ℤ}
@@ -11,33 +13,26 @@ use Rattle.minuska.specs.Term.{Term, single}
 use Rattle.minuska.specs.Word.{encode}
 use Rattle.minuska.specs.Satisfaction.{Valuation, SideCondition}
 use Rattle.minuska.specs.Rule.{condition_words}
-use Rattle.minuska.specs.Computed.Value.{holds, hold_all}
+use Rattle.minuska.specs.Basics.{◌>>=◌}
+use Rattle.minuska.specs.Computed.Reasons.{failing}
 use Rattle.minuska.specs.Bridge.Place.{Stands}
 use Rattle.minuska.proofs.Bridge.PlaceLaw.{stands_first, stands_second}
 use Rattle.value.specs.declared.Tested.{Tested}
 use Rattle.value.specs.Evaluate.{HasValue, ConditionAt, ConditionIn, ConditionContract}
-use Rattle.step.specs.declared.conditions.HowFar.{HowFar}
-use Rattle.step.specs.declared.conditions.HowFar.TheVariants.{All, Until}
-use Rattle.step.specs.Conditions.{all_of, further_by, held_by, SideWorth, StandingConditions, SomeConditions, HoldAllIs}
+use Rattle.step.specs.Conditions.{failed_by, SideWorth, StandingConditions, SomeConditions, HoldAllIs}
 
--- ---- how far conditions hold
-further_none : (p : HowFar) → further_by 0 p ≡ p
-further_none All = refl
-further_none (Until k) = ap Until (zero-add k)
+-- ---- the first that fails, of conditions behind some that hold
+abbrev behind : ℕ → Option ℕ → Option ℕ
+behind n none = none
+behind n (some k) = some (n + k)
 
-further_one : (k : ℕ) (p : HowFar) → further_by k (further_by 1 p) ≡ further_by (k + 1) p
-further_one k All = refl
-further_one k (Until m) = ap Until (let e : k + (1 + m) ≡ k + 1 + m = omega arith in e)
+behind_none : (o : Option ℕ) → behind 0 o ≡ o
+behind_none none = refl
+behind_none (some k) = ap some (zero-add k)
 
--- all hold, or not
-pub held_all : (ρ : Valuation) (conds : List SideCondition) → all_of (held_by ρ conds) ≡ hold_all ρ conds
-held_all ρ [] = refl
-held_all ρ (c ∷ conds) = pick (holds ρ c) (held_by ρ conds) (held_all ρ conds)
-  where
-    pick : (b : Bool) (p : HowFar) → all_of p ≡ hold_all ρ conds → all_of (cond b (further_by 1 p) (Until 0)) ≡ b && hold_all ρ conds
-    pick true All e = e
-    pick true (Until k) e = e
-    pick false p e = refl
+behind_one : (k : ℕ) (o : Option ℕ) → behind k (o >>= λ m. some (suc m)) ≡ behind (k + 1) o
+behind_one k none = refl
+behind_one k (some m) = ap some (let e : k + suc m ≡ k + 1 + m = omega arith in e)
 
 module _ (ws cs : List ℤ) (starts ends : List ℕ) (end i : ℕ) (ρ : Valuation) (c : SideCondition) (later : List SideCondition) (x : StandingConditions ws cs starts ends i end ρ (c ∷ later)) where
   abbrev A : List ℤ
@@ -75,8 +70,8 @@ module _ (ws cs : List ℤ) (starts ends : List ℕ) (end i : ℕ) (ρ : Valuati
           binds = x.binds;
         }
 
-    pub holds_as : (b : Bool) → r.holds ≡ b → held_by ρ (c ∷ later) ≡ cond b (further_by 1 (held_by ρ later)) (Until 0)
-    holds_as b e = ap (λ (x : Bool). cond x (further_by 1 (held_by ρ later)) (Until 0)) (sym (y.meant ρ c first_condition).holds ∙ e)
+    pub holds_as : (b : Bool) → r.holds ≡ b → failing ρ (c ∷ later) ≡ cond b (failing ρ later >>= λ k. some (suc k)) (some 0)
+    holds_as b e = ap (λ (x : Bool). cond x (failing ρ later >>= λ k. some (suc k)) (some 0)) (sym (y.meant ρ c first_condition).holds ∙ e)
 
     pub goes_forward : i < r.next
     goes_forward = omega (arith, next_is)
@@ -84,31 +79,31 @@ module _ (ws cs : List ℤ) (starts ends : List ℕ) (end i : ℕ) (ρ : Valuati
 module _ (ws cs : List ℤ) (starts ends : List ℕ) (at end : ℕ) where
   -- how far the conditions have held: k of them, and the rest stands from place i on
   pub record Holding (i k : ℕ) : Type 0 where
-    pub rest : (ρ : Valuation) (conds : List SideCondition) → StandingConditions ws cs starts ends at end ρ conds → (later : List SideCondition) × StandingConditions ws cs starts ends i end ρ later × (held_by ρ conds ≡ further_by k (held_by ρ later))
+    pub rest : (ρ : Valuation) (conds : List SideCondition) → StandingConditions ws cs starts ends at end ρ conds → (later : List SideCondition) × StandingConditions ws cs starts ends i end ρ later × (failing ρ conds ≡ behind k (failing ρ later))
 
   pub holding_first : Holding at 0
-  holding_first = record { rest = λ ρ conds x. (conds, x, sym (further_none (held_by ρ conds))) }
+  holding_first = record { rest = λ ρ conds x. (conds, x, sym (behind_none (failing ρ conds))) }
 
   -- a place before the end: a condition stands there
   some_later : (i : ℕ) (ρ : Valuation) (later : List SideCondition) → StandingConditions ws cs starts ends i end ρ later → i < end → (c : SideCondition) × (more : List SideCondition) × (later ≡ c ∷ more)
   some_later i ρ [] x h = absurd (let e = x.up_to in let f : ⊥ = omega arith in f)
   some_later i ρ (c ∷ more) x h = (c, more, refl)
 
-  none_later : (i : ℕ) (ρ : Valuation) (later : List SideCondition) → StandingConditions ws cs starts ends i end ρ later → end ≤ i → held_by ρ later ≡ All
+  none_later : (i : ℕ) (ρ : Valuation) (later : List SideCondition) → StandingConditions ws cs starts ends i end ρ later → end ≤ i → failing ρ later ≡ none
   none_later i ρ [] x h = refl
   none_later i ρ (c ∷ more) x h = absurd (let e = x.up_to in let f : ⊥ = omega (arith, length-append (encode (single c.first)) (encode (single c.second) ++ condition_words more)) in f)
 
   module _ (i k : ℕ) (m : Holding i k) where
-    pub all_held : end ≤ i → HoldAllIs ws cs starts ends at end All
-    all_held h = record { is = λ ρ conds x. let (later, y, e) = m.rest ρ conds x in sym (e ∙ ap (further_by k) (none_later i ρ later y h)) }
+    pub all_held : end ≤ i → HoldAllIs ws cs starts ends at end (Ok tt)
+    all_held h = record { is = λ ρ conds x. let (later, y, e) = m.rest ρ conds x in ap failed_by (sym (e ∙ ap (behind k) (none_later i ρ later y h))) }
 
     module _ (below : i < end) where
       -- the condition there, of a rest that there is
-      next_condition : (ρ : Valuation) (conds : List SideCondition) → StandingConditions ws cs starts ends at end ρ conds → (c : SideCondition) × (more : List SideCondition) × StandingConditions ws cs starts ends i end ρ (c ∷ more) × (held_by ρ conds ≡ further_by k (held_by ρ (c ∷ more)))
+      next_condition : (ρ : Valuation) (conds : List SideCondition) → StandingConditions ws cs starts ends at end ρ conds → (c : SideCondition) × (more : List SideCondition) × StandingConditions ws cs starts ends i end ρ (c ∷ more) × (failing ρ conds ≡ behind k (failing ρ (c ∷ more)))
       next_condition ρ conds x =
           let (later, y, e) = m.rest ρ conds x in
           let (c, more, p) = some_later i ρ later y below in
-          (c, more, subst (StandingConditions ws cs starts ends i end ρ) p y, e ∙ ap (λ (l : List SideCondition). further_by k (held_by ρ l)) p)
+          (c, more, subst (StandingConditions ws cs starts ends i end ρ) p y, e ∙ ap (λ (l : List SideCondition). behind k (failing ρ l)) p)
 
       pub condition_needs : SomeConditions ws cs starts ends at end → ConditionIn ws cs starts ends i
       condition_needs s =
@@ -118,10 +113,10 @@ module _ (ws cs : List ℤ) (starts ends : List ℕ) (at end : ℕ) where
       module _ (r : Tested) (z : ConditionContract ws cs starts ends i r) where
         pub holding_on : r.holds ≡ true → Holding r.next (k + 1)
         holding_on h =
-            record { rest = λ ρ conds x. let (c, more, y, e) = next_condition ρ conds x in (more, later_conditions ws cs starts ends end i ρ c more y r z, e ∙ (ap (further_by k) (holds_as ws cs starts ends end i ρ c more y r z true h) ∙ further_one k (held_by ρ more))) }
+            record { rest = λ ρ conds x. let (c, more, y, e) = next_condition ρ conds x in (more, later_conditions ws cs starts ends end i ρ c more y r z, e ∙ (ap (behind k) (holds_as ws cs starts ends end i ρ c more y r z true h) ∙ behind_one k (failing ρ more))) }
 
-        pub not_held : r.holds ≡ false → HoldAllIs ws cs starts ends at end (Until k)
-        not_held h = record { is = λ ρ conds x. let (c, more, y, e) = next_condition ρ conds x in sym (e ∙ (ap (further_by k) (holds_as ws cs starts ends end i ρ c more y r z false h) ∙ ap Until (add-zero k))) }
+        pub not_held : r.holds ≡ false → HoldAllIs ws cs starts ends at end (Err k)
+        not_held h = record { is = λ ρ conds x. let (c, more, y, e) = next_condition ρ conds x in ap failed_by (sym (e ∙ (ap (behind k) (holds_as ws cs starts ends end i ρ c more y r z false h) ∙ ap some (add-zero k)))) }
 
         pub holding_forward : SomeConditions ws cs starts ends at end → i < r.next
         holding_forward s = let (c, more, y, e) = next_condition s.valuation s.conditions s.is in goes_forward ws cs starts ends end i s.valuation c more y r z

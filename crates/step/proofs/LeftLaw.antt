@@ -1,12 +1,9 @@
--- A rule's left alone: what `misfit` says of it, as an answer.
-use Rattle.minuska.specs.declared.MatchAnswer.{MatchAnswer}
-use Rattle.std.specs.Prelude.{Option as StdOption, Result, Ok}
-use Rattle.minuska.specs.declared.Refusal.{Refusal}
-use Rattle.minuska.specs.declared.Stepped.{Stepped}
+-- A rule's left alone: what its verdict says of it, as an answer.
+use Rattle.std.specs.Prelude.{Result, Ok, Err}
 use mathlib.Core.Path.{◌≡◌, refl, sym, ◌∙◌, ap}
-use mathlib.Core.Option.{Option}
+use mathlib.Core.Option.{Option, none, some}
 use mathlib.Core.List.{List}
-use Prim.Native.Nat.{ℕ, ◌+◌, ◌*◌, ◌≤◌}
+use Prim.Native.Nat.{ℕ, ◌+◌, ◌*◌, ◌≤◌, ◌<◌}
 use native.Mathlib.Omega.{arith}
 use lib.IntN.{ℤ}
 use lib.ListN.{length, get_elem?}
@@ -24,27 +21,32 @@ use Rattle.minuska.proofs.ShutLaw.{match_rule_is, match_outcome_is}
 use Rattle.minuska.proofs.OutcomeLaw.{on_words_lem}
 use Rattle.minuska.proofs.ContractLaw.{match_rule_contract}
 use Rattle.minuska.proofs.Bridge.AcceptedLaw.{term_length}
-use Rattle.step.specs.declared.conditions.HowFar.{HowFar}
-use Rattle.step.specs.declared.conditions.HowFar.TheVariants.{All, Until}
-use Rattle.step.specs.Conditions.{held_by}
-use Rattle.step.specs.Apply.{verdict_held, verdict_by, verdict_of, missed}
-use Rattle.step.specs.Among.{AmongIs}
+use Rattle.minuska.specs.Basics.{◌>>=◌}
+use Rattle.minuska.specs.Obstacle.{Reason, left_differs, condition_fails}
+use Rattle.minuska.specs.Computed.Reasons.{failing, reason_by, reason}
+use Rattle.minuska.proofs.Good.{good}
+use Rattle.minuska.proofs.StepLaw.{rule_okay}
+use Rattle.minuska.proofs.ObstacleLaw.{place_below}
+use Rattle.minuska.proofs.Bridge.PositionLaw.{element_there}
+use Rattle.step.specs.declared.rule.Obstacle.{Obstacle}
+use Rattle.step.specs.declared.rule.Obstacle.TheVariants.{Left}
+use Rattle.step.specs.Verdict.{verdict_for, verdict_of, VerdictIs}
 use Rattle.step.proofs.ApplyLaw.{past_none}
 use Rattle.step.proofs.AmongLaw.{candidate}
 
--- ---- the number that is left, by the comparison
-held_missed : (p : HowFar) → missed (verdict_held p) ≡ 0
-held_missed All = refl
-held_missed (Until k) = refl
+-- ---- the nodes that are compared, by the verdict
+module _ (l : Term) (conds : List SideCondition) where
+  apart_at : (c : Comparison) {k : ℕ} → Err (Left k) ≡ verdict_for (reason_by conds c) → nodes_compared l c ≡ misfit (k + 1)
+  apart_at (agreed ρ) e = absurd (no_left_lem (failing ρ conds) e)
+    where
+      no_left_lem : (o : Option ℕ) {k : ℕ} → Err (Left k) ≡ verdict_for (o >>= λ m. some (condition_fails m)) → ⊥
+      no_left_lem none e = cc
+      no_left_lem (some m) e = cc
+  apart_at (apart j) {k} e = ap misfit (let z : j ≡ k = cc in omega arith)
 
-module _ (l : Term) (conds : List SideCondition) (m : ℕ) where
-  missed_some : (c : Comparison) → m ≡ missed (verdict_by conds c) → (m ≡ 0 → ⊥) → nodes_compared l c ≡ misfit m
-  missed_some (agreed ρ) e f = absurd (f (e ∙ held_missed (held_by ρ conds)))
-  missed_some (apart k) e f = ap misfit (sym e)
-
-  missed_none : (c : Comparison) → m ≡ missed (verdict_by conds c) → m ≡ 0 → nodes_compared l c ≡ matched (node_count l)
-  missed_none (agreed ρ) e z = refl
-  missed_none (apart k) e z = absurd (let f : ⊥ = omega arith in f)
+  all_agree : (c : Comparison) → ((k : ℕ) → verdict_for (reason_by conds c) ≡ Err (Left k) → ⊥) → nodes_compared l c ≡ matched (node_count l)
+  all_agree (agreed ρ) f = refl
+  all_agree (apart j) f = absurd (f j refl)
 
 -- ---- the answers of `compare_rule`
 module _ (ws cs : List ℤ) (index : List ℕ) (n : ℕ) (x : Indexed ws index) (y : Accepted cs) where
@@ -61,7 +63,16 @@ module _ (ws cs : List ℤ) (index : List ℕ) (n : ℕ) (x : Indexed ws index) 
       match_rule_contract ws cs n (Ok (M.Differs 0))
       (ap match_answer (sym (outcome_by ∙ ap (λ (o : Option Rule). gives (match_numbered o y.term)) (past_none x.table n (omega arith)))))
 
-  module _ (a : Names ws n) (out out' : List ℤ) (m : ℕ) (r : Result (StdOption Stepped) Refusal) (k : AmongIs ws cs n 0 0 out out' 0 m r) where
+  pub named : (count : ℕ) → RuleCountIs ws count → n < count → Names ws n
+  named count c h =
+      let e : count ≡ length x.table = c.is x.table x.is in
+      let (r, f) = element_there x.table n (omega arith) in
+      record { table = x.table; is = x.is; rule = r; numbered = f }
+
+  pub left_in_order : Names ws n → {from to : ℕ} → PartIs left_words ws n from to → from ≤ to
+  left_in_order a p = omega (arith, p.ends a.table a.rule a.is a.numbered)
+
+  module _ (a : Names ws n) {v : Result (Unit {0}) Obstacle} (w : VerdictIs ws cs n v) where
     abbrev rule : Rule
     rule = a.rule
 
@@ -69,21 +80,30 @@ module _ (ws cs : List ℤ) (index : List ℕ) (n : ℕ) (x : Indexed ws index) 
     by_left z e =
         outcome_by ∙ (ap (λ (o : Option Rule). gives (match_numbered o y.term)) (candidate ws cs n a x.table y.term x.is y.is).numbered ∙ ap {B = Outcome MatchResult} gives e)
 
-    left_missed : m ≡ missed (verdict_of rule y.term)
-    left_missed = k.alone refl refl rule y.term (candidate ws cs n a x.table y.term x.is y.is)
+    verdict : v ≡ verdict_of rule y.term
+    verdict = w.is rule y.term (candidate ws cs n a x.table y.term x.is y.is)
 
-    pub left_differs_lem : (m ≡ 0 → ⊥) → MatchRuleContract ws cs n (Ok (M.Differs m))
+    -- the left is small, and so is the place
+    pub place_small : {k : ℕ} → v ≡ Err (Left k) → k < 512
+    place_small {k} e = pick (reason rule y.term) refl (sym verdict ∙ e)
+      where
+        pick : (o : Option Reason) → reason rule y.term ≡ o → verdict_for o ≡ Err (Left k) → k < 512
+        pick none q f = cc
+        pick (some (condition_fails m)) q f = cc
+        pick (some (left_differs m)) q f =
+            let x = rule_okay a.table a.is.accepted n rule a.numbered in
+            let z : m ≡ k = cc in
+            omega (arith, place_below rule y.term x m q, (good rule x).left.small)
+
+    pub left_differs_lem : {k : ℕ} → v ≡ Err (Left k) → MatchRuleContract ws cs n (Ok (M.Differs (k + 1)))
     unfolding match_answer
-    left_differs_lem f =
-        match_rule_contract ws cs n (Ok (M.Differs m))
-        (ap match_answer (sym (by_left (misfit m) (missed_some rule.left rule.conditions m (comparison rule.left y.term) left_missed f))))
+    left_differs_lem {k} e =
+        match_rule_contract ws cs n (Ok (M.Differs (k + 1)))
+        (ap match_answer (sym (by_left (misfit (k + 1)) (apart_at rule.left rule.conditions (comparison rule.left y.term) (sym e ∙ verdict)))))
 
     -- by the number that is answered: the left's nodes, from its words
-    abbrev ok : MatchAnswer → Result MatchAnswer Refusal
-    ok x = Ok x
-
-    pub left_matches : (from to k : ℕ) → PartIs left_words ws n from to → m ≡ 0 → (to ≡ from + 2 * node_count rule.left → k ≡ node_count rule.left) → MatchRuleContract ws cs n (Ok (M.Matches k))
+    pub left_matches : ((k : ℕ) → v ≡ Err (Left k) → ⊥) → {from to : ℕ} → PartIs left_words ws n from to → {k : ℕ} → (to ≡ from + 2 * node_count rule.left → k ≡ node_count rule.left) → MatchRuleContract ws cs n (Ok (M.Matches k))
     unfolding match_answer
-    left_matches from to k p z q =
+    left_matches f {from} {to} p {k} q =
         match_rule_contract ws cs n (Ok (M.Matches k))
-        (ap (λ (j : ℕ). ok (M.Matches j)) (q (omega (arith, p.ends a.table rule a.is a.numbered, term_length rule.left))) ∙ ap match_answer (sym (by_left (matched (node_count rule.left)) (missed_none rule.left rule.conditions m (comparison rule.left y.term) left_missed z))))
+        (ap (λ (m : ℕ). Ok (M.Matches m)) (q (omega (arith, p.ends a.table rule a.is a.numbered, term_length rule.left))) ∙ ap match_answer (sym (by_left (matched (node_count rule.left)) (all_agree rule.left rule.conditions (comparison rule.left y.term) (λ m g. f m (verdict ∙ g))))))

@@ -10,8 +10,6 @@ pub mod RuleLaw
 pub mod ApplyLaw
 pub mod WaysLaw
 pub mod AmongLaw
-pub mod VerdictLaw
-pub mod AloneLaw
 pub mod JudgingLaw
 pub mod PuttingLaw
 pub mod StuckLaw

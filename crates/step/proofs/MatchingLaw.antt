@@ -1,4 +1,5 @@
 -- One turn of the walk over a left and a configuration, over terms: what it finds keeps the outcome of the match.
+use Rattle.std.specs.Prelude.{Some, None}
 use mathlib.Core.Path.{◌≡◌, refl, sym, ◌∙◌, ap, subst}
 use mathlib.Core.Bool.{Bool, true, false}
 use mathlib.Core.Option.{Option, none, some, some-injective}
@@ -26,15 +27,15 @@ use Rattle.minuska.proofs.Bridge.ShapeLaw.{ok_shapely}
 use Rattle.minuska.proofs.Bridge.AppendedLaw.{first_words, appended_count, appended_ok, labels, labels_all, appended_labels}
 use Rattle.minuska.specs.Computed.Compare.{Comparison, apart, later, compare}
 use Rattle.step.specs.Matching.{Walk, Walking, TurnFrom, LeftTurned}
-use Rattle.step.specs.declared.matching.LeftTurn.TheVariants.{Same, Misfit}
+use Rattle.step.specs.declared.matching.LeftTurn.TheVariants.{Same}
 use Rattle.minuska.proofs.CompareLaw.{later_later, same_node, same_node_lem, compare_plain, compare_on}
 
 abbrev pub word : List ℤ → ℕ → ℤ
 word ws i = get_or ws i (pos 0)
 
--- two words that were read, with the same bits
-pub word_same : {a b x y : ℤ} → SFits w64 a → SFits w64 b → a ≡ x → b ≡ y → of_z w64 a ≡ of_z w64 b → x ≡ y
-word_same {a} {b} f g p q e = sym p ∙ (same_bits a b f g e ∙ q)
+-- two words with the same bits
+pub same_word : {a b : ℤ} → SFits w64 a → SFits w64 b → of_z w64 a ≡ of_z w64 b → a ≡ b
+same_word {a} {b} f g e = same_bits a b f g e
 
 -- two nodes in range with the same words have the same label and as many children
 node_by_words : (l g : Label) (k m : ℕ) → T (ok_head l k) → T (ok_head g m) → tag_word l k ≡ tag_word g m → datum_word l ≡ datum_word g → (l ≡ g) × (k ≡ m)
@@ -155,10 +156,10 @@ module _ {table : List ℤ} {end : ℕ} {config : List ℤ} {i j : ℕ} {starts 
 
 -- ---- what one turn answers at a plain node
 module _ {table : List ℤ} {i end : ℕ} {config : List ℤ} {j : ℕ} {starts ends : List ℕ} (plain : word table i ≡ pos variable_tag → ⊥) where
-  pub turned_same : word table i ≡ word config j → word table (i + 1) ≡ word config (j + 1) → LeftTurned table i end config j starts ends Same
+  pub turned_same : word table i ≡ word config j → word table (i + 1) ≡ word config (j + 1) → LeftTurned table i end config j starts ends (Some Same)
   turned_same p q = record { after = λ n o h w. heads w h (λ l ls lss g gs gss σ k. after_same l ls lss g gs gss σ k plain p q) }
 
-  pub turned_other : (word table i ≡ word config j → word table (i + 1) ≡ word config (j + 1) → ⊥) → LeftTurned table i end config j starts ends Misfit
+  pub turned_other : (word table i ≡ word config j → word table (i + 1) ≡ word config (j + 1) → ⊥) → LeftTurned table i end config j starts ends None
   turned_other f = record { after = λ n o h w. heads w h (λ l ls lss g gs gss σ k. after_other l ls lss g gs gss σ k plain f) }
 
 -- both have a node's two words there

@@ -1,4 +1,5 @@
 -- One turn of the walk at a variable: bound anew, or bound before to a here that has the same words.
+use Rattle.std.specs.Prelude.{Some, None}
 use mathlib.Core.Path.{◌≡◌, refl, sym, ◌∙◌, ap, subst, subst⁻¹, subst₂}
 use mathlib.Core.Bool.{Bool, true, false, cond}
 use mathlib.Core.Option.{Option, none, some, some-injective, none-ne-some}
@@ -7,9 +8,12 @@ use Prim.Native.Nat.{ℕ, ◌+◌, ◌-◌, ◌<◌, ◌≤◌}
 use native.Mathlib.Nat.{add-zero}
 use native.Mathlib.Omega.{arith}
 use native.Mathlib.Decide.{ℕ_discrete}
-use lib.Dec.{T}
+use lib.Dec.{T, lit<}
 use lib.IntN.{ℤ, pos, nat_abs}
 use lib.Signed.{non_neg}
+use mir.Syntax.{w64}
+use mir.Val.{SFits, to_z, of_z}
+use mir.ValLaws.{to_z-of_z}
 use lib.ListN.{length, take, drop, get_or, length-append}
 use borrow.Author.Tests.{eq-eqb, ne_eqb}
 use Rattle.minuska.specs.Basics.{provided}
@@ -17,7 +21,7 @@ use Rattle.minuska.specs.Term.{Label, variable, Forest, nil, node, Term, single,
 use Rattle.minuska.specs.Word.{variables, tag_word, datum_word, encode}
 use Rattle.minuska.specs.Satisfaction.{Valuation}
 use Rattle.minuska.specs.Rule.{symbolic_at}
-use Rattle.minuska.specs.Computed.Read.{variable_tag}
+use Rattle.minuska.specs.Computed.Read.{variable_tag, call_tag}
 use Rattle.minuska.specs.Computed.Match.{same_term, assign_new, assign_at, assign}
 use Rattle.minuska.specs.Bridge.Place.{part, Stands, GroundAt, GroundEnds, BoundAt, Binds}
 use Rattle.minuska.proofs.Tests.{provided_true, same_term_lem, term_same}
@@ -27,9 +31,9 @@ use Rattle.minuska.proofs.Bridge.PlaceLaw.{stands_second, stands_unique}
 use Rattle.minuska.proofs.Bridge.AppendedLaw.{first_words, labels}
 use Rattle.minuska.specs.Computed.Compare.{Comparison, apart, later, after, compare_bound, compare}
 use Rattle.step.specs.Matching.{Walk, Walking, TurnFrom, Put, LeftTurned}
-use Rattle.step.specs.declared.matching.LeftTurn.TheVariants.{Bind, Again, Misfit}
+use Rattle.step.specs.declared.matching.LeftTurn.TheVariants.{Bind, Again}
 use Rattle.minuska.proofs.CompareLaw.{later_later}
-use Rattle.step.proofs.MatchingLaw.{word, has_part, heads, left_tag, left_datum, words_here, good_here, term_at_lem}
+use Rattle.step.proofs.MatchingLaw.{word, same_word, has_part, heads, left_tag, left_datum, words_here, good_here, term_at_lem}
 
 module _ {table : List ℤ} {end : ℕ} {config : List ℤ} {i j : ℕ} {starts ends : List ℕ} {n : ℕ} {o : Comparison} where
   -- the walk is at a variable, if the tag says so
@@ -159,24 +163,34 @@ module _ {table : List ℤ} {end : ℕ} {config : List ℤ} {i j : ℕ} {starts 
           after_differs λ q.
           omega (arith, bound.ends, ap (λ (t : Term). length (encode (single t))) q, found.stands.within)
 
+-- ---- a variable's two words, as they are read
+pub tag_three : {z : ℤ} → SFits w64 z → of_z w64 z ≡ 3 → z ≡ pos variable_tag
+tag_three f e = same_word f (record { sfits = lit< tt }) e
+
+pub tag_four : {z : ℤ} → SFits w64 z → of_z w64 z ≡ 4 → z ≡ pos call_tag
+tag_four f e = same_word f (record { sfits = lit< tt }) e
+
+pub number_read : {z : ℤ} → SFits w64 z → nat_abs (to_z w64 (of_z w64 z)) ≡ nat_abs z
+number_read {z} f = ap nat_abs (to_z-of_z w64 z f)
+
 -- ---- what one turn answers at a variable
 module _ {table : List ℤ} {i end : ℕ} {config : List ℤ} {j : ℕ} {starts ends : List ℕ} {v : ℕ} (three : word table i ≡ pos variable_tag) (number : v ≡ nat_abs (word table (i + 1))) where
-  pub turned_bind : {to : ℕ} → to ≡ get_or ends v 0 → to ≡ 0 → {e : ℕ} → GroundEnds config j e → LeftTurned table i end config j starts ends (Bind v e)
+  pub turned_bind : {to : ℕ} → to ≡ get_or ends v 0 → to ≡ 0 → {e : ℕ} → GroundEnds config j e → LeftTurned table i end config j starts ends (Some (Bind v e))
   turned_bind r z {e} t =
       record { after = λ n o h w. at_variable w h three number λ lss g gs gss σ low d k. let x = found v lss g gs gss σ k in let a = t.ends x.term x.shape x.grounded x.stands in (low, omega (arith, a), omega (arith, a, x.stands.within), after_bind v lss g gs gss σ k low e (sym r ∙ z) a) }
 
   -- a part from a start to an end that were read in the arrays
   module _ {from to : ℕ} (start : from ≡ get_or starts v 0) (stop : to ≡ get_or ends v 0) (z : to ≡ 0 → ⊥) where
     module _ {e : ℕ} (at : e ≡ j + (to - from)) where
-      pub turned_again : e ≤ length config → part config from to ≡ part config j e → LeftTurned table i end config j starts ends (Again e)
+      pub turned_again : e ≤ length config → part config from to ≡ part config j e → LeftTurned table i end config j starts ends (Some (Again e))
       turned_again h same =
           record { after = λ n o m w. at_variable w m three number λ lss g gs gss σ low d k. let x = has_part k v (λ q. z (stop ∙ q)) in after_again v lss g gs gss σ k x.0 x.1 e (rw (← stop, ← start) at) h (rw (← stop, ← start) same) }
 
-      pub turned_differs : (part config from to ≡ part config j e → ⊥) → LeftTurned table i end config j starts ends Misfit
+      pub turned_differs : (part config from to ≡ part config j e → ⊥) → LeftTurned table i end config j starts ends None
       turned_differs f =
           record { after = λ n o m w. at_variable w m three number λ lss g gs gss σ low d k. let x = has_part k v (λ q. z (stop ∙ q)) in after_other_words v lss g gs gss σ k x.0 x.1 e (rw (← stop, ← start) at) (λ q. f (rw (stop, start) q)) }
 
-      pub turned_long : length config < e → LeftTurned table i end config j starts ends Misfit
+      pub turned_long : length config < e → LeftTurned table i end config j starts ends None
       turned_long h =
           record { after = λ n o m w. at_variable w m three number λ lss g gs gss σ low d k. let x = has_part k v (λ q. z (stop ∙ q)) in after_long v lss g gs gss σ k x.0 x.1 e (rw (← stop, ← start) at) h }
 

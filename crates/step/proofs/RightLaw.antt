@@ -5,7 +5,9 @@ use mathlib.Core.Option.{Option, some}
 use mathlib.Core.List.{List, [], ◌∷◌, ◌++◌}
 use Prim.Native.Nat.{ℕ, ◌+◌, ◌-◌, ◌≤◌, ◌<◌}
 use native.Mathlib.Omega.{arith}
-use lib.Dec.{T}
+use lib.Dec.{T, eqb}
+use mir.Syntax.{w64}
+use mir.Val.{of_z}
 use lib.IntN.{ℤ, pos, nat_abs}
 use lib.ListN.{length, take, drop, get_or, length-append}
 use lib.Signed.{non_neg}
@@ -248,6 +250,17 @@ module _ (ws : List ℤ) (at : ℕ) where
 
   pub no_one_node : OneNodeIs ws at false
   no_one_node = record { call = λ e. absurd (false≢true e); expression = λ e. absurd (false≢true e); size = λ e. absurd (false≢true e) }
+
+  -- by the tests of the code
+  pub one_node_by : word ws at ≡ pos call_tag → not (eqb (of_z w64 (word ws (at + 1))) 16) ≡ true → OneNodeIs ws at (not (eqb (of_z w64 (word ws (at + 1))) 17))
+  one_node_by four lookup = go (not (eqb (of_z w64 (word ws (at + 1))) 17)) refl
+    where
+      other : (n : ℕ) → not (eqb (of_z w64 (word ws (at + 1))) n) ≡ true → not (eqb n n) ≡ false → word ws (at + 1) ≡ pos n → ⊥
+      other n e f p = let z : true ≡ false = sym e ∙ (ap (λ (y : ℤ). not (eqb (of_z w64 y) n)) p ∙ f) in cc
+
+      go : (b : Bool) → not (eqb (of_z w64 (word ws (at + 1))) 17) ≡ b → OneNodeIs ws at b
+      go true e = one_node_call four (other 16 lookup refl) (other 17 e refl)
+      go false e = no_one_node
 
 module _ (ws cs : List ℤ) (starts ends : List ℕ) (at end : ℕ) (below : at < end) where
   pub call_sized : (b : Bool) → OneNodeIs ws at b → b ≡ true → (e : ℕ) → TermEnds ws at e → SizedIs ws cs starts ends at end (record { words = 2; next = e })

@@ -1,4 +1,5 @@
 -- From where a rule's parts stand to what stands there: the left, the conditions and the right of that rule.
+use Rattle.std.specs.Prelude.{Result}
 use mathlib.Core.Path.{◌≡◌, sym, ◌∙◌, ap, subst⁻¹}
 use mathlib.Core.Bool.{Bool, true}
 use mathlib.Core.Option.{Option, some}
@@ -32,8 +33,6 @@ use Rattle.step.specs.Apply.{Matched, SomeMatched, MatchIs, HoldIs, FitsIs, Word
 use Rattle.step.specs.Matching.{IsLeft, LeftIn, MatchContract}
 use Rattle.step.specs.Conditions.{SidesWorth, StandingConditions, SomeConditions, HoldAllIs}
 use Rattle.step.specs.Right.{Rest, SomeRest, MeasureRightIs, FittingRest, WriteRightIs}
-use Rattle.step.specs.declared.conditions.HowFar.{HowFar}
-use Rattle.step.specs.declared.matching.Compared.{Compared}
 use Rattle.step.proofs.RoomLaw.{words_most}
 
 -- the greater of two numbers is at least each, and at most both together
@@ -54,8 +53,8 @@ module _ (ws : List ℤ) (n : ℕ) where
     pub left_in : Names ws n → LeftIn ws from to
     left_in a = record { left = a.rule.left; is = is_left a.table a.rule a.is a.numbered }
 
-    pub match_is : (cs : List ℤ) (starts starts' ends' : List ℕ) (r : Compared) → MatchContract ws from to cs starts starts' ends' r → MatchIs ws cs n starts' ends' r
-    match_is cs starts starts' ends' r m =
+    pub match_is : (cs : List ℤ) (starts' ends' : List ℕ) (r : Result (Unit {0}) ℕ) → MatchContract ws from to cs starts' ends' r → MatchIs ws cs n starts' ends' r
+    match_is cs starts' ends' r m =
         record {
           answer = λ rule g a. (m.each rule.left g (is_left a.table rule a.is a.numbered) a.configuration).answer;
           binds = λ rule g ρ a e. (m.each rule.left g (is_left a.table rule a.is a.numbered) a.configuration).binds ρ e;
@@ -98,7 +97,7 @@ module _ (ws : List ℤ) (n : ℕ) where
       pub some_conditions : SomeMatched ws cs n starts ends → SomeConditions ws cs starts ends from to
       some_conditions s = record { valuation = s.valuation; conditions = s.rule.conditions; is = conditions_at s.rule s.configuration s.valuation s.is }
 
-      pub hold_is : (r : HowFar) → HoldAllIs ws cs starts ends from to r → HoldIs ws cs n starts ends r
+      pub hold_is : (r : Result (Unit {0}) ℕ) → HoldAllIs ws cs starts ends from to r → HoldIs ws cs n starts ends r
       hold_is r h = record { is = λ rule g ρ m. h.is ρ rule.conditions (conditions_at rule g ρ m) }
 
     -- ---- the right

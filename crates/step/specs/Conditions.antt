@@ -1,27 +1,18 @@
 -- A rule's conditions, one behind the other: two expressions each, all worth a term.
-use Rattle.std.specs.Prelude.{◌≡◌, Bool, true, false, cond, List, [], ◌∷◌, ℕ, ◌+◌, T, ℤ, length}
-use Rattle.std.proofs.Math.Option.{some}
+use Rattle.std.specs.Prelude.{◌≡◌, List, [], ◌∷◌, ℕ, ◌+◌, T, ℤ, length, Result, Ok, Err}
+use Rattle.std.proofs.Math.Option.{Option, none, some}
 use Rattle.minuska.specs.Term.{Term, single}
 use Rattle.minuska.specs.Word.{ok}
 use Rattle.minuska.specs.Satisfaction.{Valuation, SideCondition}
 use Rattle.minuska.specs.Rule.{is_expression, condition_words}
-use Rattle.minuska.specs.Computed.Value.{value, holds}
+use Rattle.minuska.specs.Computed.Value.{value}
+use Rattle.minuska.specs.Computed.Reasons.{failing}
 use Rattle.minuska.specs.Bridge.Place.{Stands, Binds}
-use Rattle.step.specs.declared.conditions.HowFar.{HowFar}
-use Rattle.step.specs.declared.conditions.HowFar.TheVariants.{All, Until}
 
--- how far they hold, in their order: all, or up to the first that fails
-abbrev pub further_by : ℕ → HowFar → HowFar
-further_by n All = All
-further_by n (Until k) = Until (n + k)
-
-abbrev pub all_of : HowFar → Bool
-all_of All = true
-all_of (Until k) = false
-
-abbrev pub held_by : Valuation → List SideCondition → HowFar
-held_by ρ [] = All
-held_by ρ (c ∷ cs) = cond (holds ρ c) (further_by 1 (held_by ρ cs)) (Until 0)
+-- the first of some facts that fails, as the code has it: none does, or its number
+abbrev pub failed_by : Option ℕ → Result (Unit {0}) ℕ
+failed_by none = Ok tt
+failed_by (some k) = Err k
 
 pub record SideWorth (ρ : Valuation) (e : Term) : Type 0 where
   pub good : T (ok (single e))
@@ -46,5 +37,5 @@ module _ (ws cs : List ℤ) (starts ends : List ℕ) where
     pub conditions : List SideCondition
     pub is : StandingConditions at end valuation conditions
 
-  pub record HoldAllIs (at end : ℕ) (r : HowFar) : Type 0 where
-    pub is : (ρ : Valuation) (conds : List SideCondition) → StandingConditions at end ρ conds → r ≡ held_by ρ conds
+  pub record HoldAllIs (at end : ℕ) (r : Result (Unit {0}) ℕ) : Type 0 where
+    pub is : (ρ : Valuation) (conds : List SideCondition) → StandingConditions at end ρ conds → r ≡ failed_by (failing ρ conds)

@@ -1,38 +1,23 @@
 // A rule's conditions, one after the other.
 ghost use Rattle.step.specs.Conditions.{SomeConditions, HoldAllIs};
 
-use term::Places;
+use term::Span;
+use value::Scope;
 
-// How far conditions hold, one after the other.
-#[derive(Clone, Copy)]
-pub enum HowFar {
-    // all of them
-    All,
-    // those before the one of this number, from 0, which fails
-    Until(usize),
-}
-
-// Whether all conditions that stand from a place up to another hold.
-pub fn hold_all<'a>(
-    table: &'a [i64],
-    configuration: &'a [i64],
-    at: usize,
-    end: usize,
-    starts: &Places,
-    ends: &Places,
-) -> HowFar
-    requires { SomeConditions table.now configuration.now starts.now ends.now at end }
-    ensures { HoldAllIs table.now configuration.now starts.now ends.now at end result }
+// Whether all conditions that stand in a part of the table hold, or the number, from 0, of the first that fails.
+pub fn hold_all(scope: &Scope, conditions: Span) -> Result<(), usize>
+    requires { SomeConditions scope.now.table.now scope.now.configuration.now scope.now.places.now.starts scope.now.places.now.ends conditions.from conditions.to }
+    ensures { HoldAllIs scope.now.table.now scope.now.configuration.now scope.now.places.now.starts scope.now.places.now.ends conditions.from conditions.to result }
 {
-    let mut i = at;
+    let mut i = conditions.from;
     let mut held = 0;
-    while i < end {
-        let c = value::condition(table, configuration, i, starts, ends);
-        if !c.holds {
-            return HowFar::Until(held);
+    while i < conditions.to {
+        let condition = scope.condition(i);
+        if !condition.holds {
+            return Err(held);
         }
-        i = c.next;
+        i = condition.next;
         held += 1;
     }
-    HowFar::All
+    Ok(())
 }

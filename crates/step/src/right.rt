@@ -3,8 +3,9 @@ ghost use Rattle.std.specs.Prelude.{◌+◌, ◌≤◌, ◌<◌, length};
 ghost use Rattle.minuska.specs.Bridge.Place.{Decides};
 ghost use Rattle.step.specs.Right.{SomeRest, ItemIs, SomePiece, PieceIs, IsUpdate, NoUpdate, PartsAre, OneNodeIs, SizedIs, MeasureRightIs, FittingItem, WriteItemIs, FittingRest, WriteRightIs};
 
-use term::Places;
-use value::{Evaluated, Value};
+use term::Span;
+use term::places::Places;
+use value::{Evaluated, Scope, Value};
 
 // The codes of the functions whose value is not one node, as words: a lookup's is a part of either slice, an update's is no part of any.
 const LOOKUP: i64 = term::LOOKUP as i64;
@@ -12,22 +13,21 @@ const LOOKUP: i64 = term::LOOKUP as i64;
 const UPDATE: i64 = term::UPDATE as i64;
 
 // One item that is no call, where it lies: a variable's part of the configuration, or a node's two words of the table.
-pub fn piece(table: &[i64], at: usize, starts: &Places, ends: &Places) -> Evaluated
-    requires { SomePiece table.now starts.now ends.now at }
-    ensures { PieceIs table.now starts.now ends.now at result }
+fn piece(table: &[i64], at: usize, places: &Places) -> Evaluated
+    requires { SomePiece table.now places.now.starts places.now.ends at }
+    ensures { PieceIs table.now places.now.starts places.now.ends at result }
 {
-    if term::word(table, at) == term::VARIABLE {
-        let v = term::word(table, at + 1) as usize;
-        let from = term::place_of(starts, v);
-        let to = term::place_of(ends, v);
+    let next = at + 2;
+    if table[at] == term::VARIABLE {
+        let part = places.part(table[at + 1] as usize);
         return Evaluated {
-            value: Value::Configuration(from, to),
-            next: at + 2,
+            value: Value::Configuration(part.from, part.to),
+            next,
         };
     }
     Evaluated {
-        value: Value::Table(at, at + 2),
-        next: at + 2,
+        value: Value::Table(at, next),
+        next,
     }
 }
 
@@ -36,31 +36,18 @@ fn is_update(table: &[i64], at: usize) -> bool
     requires { at + 2 ≤ length table.now }
     ensures { Decides result (IsUpdate table.now at) }
 {
-    if term::word(table, at) != term::CALL {
-        return false;
-    }
-    if term::word(table, at + 1) != UPDATE {
-        return false;
-    }
-    true
+    table[at] == term::CALL && table[at + 1] == UPDATE
 }
 
 // One item that is no update: a call's value; else where it lies.
-pub fn item(
-    table: &[i64],
-    configuration: &[i64],
-    at: usize,
-    end: usize,
-    starts: &Places,
-    ends: &Places,
-) -> Evaluated
-    requires { SomeRest table.now configuration.now starts.now ends.now at end × (at < end) × NoUpdate table.now at }
-    ensures { ItemIs table.now configuration.now starts.now ends.now at end result }
+fn item(scope: &Scope, at: usize, end: usize) -> Evaluated
+    requires { SomeRest scope.now.table.now scope.now.configuration.now scope.now.places.now.starts scope.now.places.now.ends at end × (at < end) × NoUpdate scope.now.table.now at }
+    ensures { ItemIs scope.now.table.now scope.now.configuration.now scope.now.places.now.starts scope.now.places.now.ends at end result }
 {
-    if term::word(table, at) == term::CALL {
-        return value::evaluate(table, configuration, at, starts, ends);
+    if scope.table[at] == term::CALL {
+        return scope.evaluate(at);
     }
-    piece(table, at, starts, ends)
+    piece(scope.table, at, scope.places)
 }
 
 // How many words an item has, and the place behind it.
@@ -76,17 +63,7 @@ fn gives_one_node(table: &[i64], at: usize) -> bool
     requires { at + 2 ≤ length table.now }
     ensures { OneNodeIs table.now at result }
 {
-    if term::word(table, at) == term::CALL {
-        let code = term::word(table, at + 1);
-        if code == LOOKUP {
-            return false;
-        }
-        if code == UPDATE {
-            return false;
-        }
-        return true;
-    }
-    false
+    table[at] == term::CALL && table[at + 1] != LOOKUP && table[at + 1] != UPDATE
 }
 
 // An update's arguments' values, a dictionary, a key and a term, and the place behind it.
@@ -99,110 +76,75 @@ pub struct Parts {
 }
 
 // The values of the arguments of the update that stands at a place.
-fn update_parts(
-    table: &[i64],
-    configuration: &[i64],
-    at: usize,
-    end: usize,
-    starts: &Places,
-    ends: &Places,
-) -> Parts
-    requires { SomeRest table.now configuration.now starts.now ends.now at end × (at < end) × IsUpdate table.now at }
-    ensures { PartsAre table.now configuration.now starts.now ends.now at end result }
+fn update_parts(scope: &Scope, at: usize, end: usize) -> Parts
+    requires { SomeRest scope.now.table.now scope.now.configuration.now scope.now.places.now.starts scope.now.places.now.ends at end × (at < end) × IsUpdate scope.now.table.now at }
+    ensures { PartsAre scope.now.table.now scope.now.configuration.now scope.now.places.now.starts scope.now.places.now.ends at end result }
 {
-    let x = value::evaluate(table, configuration, at + 2, starts, ends);
-    let dictionary = x.value;
-    let i = x.next;
-    let y = value::evaluate(table, configuration, i, starts, ends);
-    let key = y.value;
-    let j = y.next;
-    let z = value::evaluate(table, configuration, j, starts, ends);
-    let term = z.value;
+    let dictionary = scope.evaluate(at + 2);
+    let key = scope.evaluate(dictionary.next);
+    let term = scope.evaluate(key.next);
     Parts {
-        dictionary: dictionary,
-        key: key,
-        term: term,
-        next: z.next,
+        dictionary: dictionary.value,
+        key: key.value,
+        term: term.value,
+        next: term.next,
     }
 }
 
 // AN UPDATE'S SIZE.
-fn update_size<'a>(
-    table: &'a [i64],
-    configuration: &'a [i64],
-    at: usize,
-    end: usize,
-    starts: &Places,
-    ends: &Places,
-) -> Sized
-    requires { SomeRest table.now configuration.now starts.now ends.now at end × (at < end) × IsUpdate table.now at }
-    ensures { SizedIs table.now configuration.now starts.now ends.now at end result }
+fn update_size(scope: &Scope, at: usize, end: usize) -> Sized
+    requires { SomeRest scope.now.table.now scope.now.configuration.now scope.now.places.now.starts scope.now.places.now.ends at end × (at < end) × IsUpdate scope.now.table.now at }
+    ensures { SizedIs scope.now.table.now scope.now.configuration.now scope.now.places.now.starts scope.now.places.now.ends at end result }
 {
-    let p = update_parts(table, configuration, at, end, starts, ends);
-    let d = p.dictionary;
-    let k = p.key;
-    let v = p.term;
-    let plan = value::update::plan_of(table, configuration, d, k);
-    let n = value::update::plan_size(table, configuration, d, plan, v);
+    let p = update_parts(scope, at, end);
+    let plan = value::update::plan_of(scope.table, scope.configuration, p.dictionary, p.key);
+    let words = value::update::plan_size(
+        scope.table,
+        scope.configuration,
+        p.dictionary,
+        plan,
+        p.term,
+    );
     Sized {
-        words: n,
+        words,
         next: p.next,
     }
 }
 
 // One item's size.
-pub fn item_size<'a>(
-    table: &'a [i64],
-    configuration: &'a [i64],
-    at: usize,
-    end: usize,
-    starts: &Places,
-    ends: &Places,
-) -> Sized
-    requires { SomeRest table.now configuration.now starts.now ends.now at end × (at < end) }
-    ensures { SizedIs table.now configuration.now starts.now ends.now at end result }
+fn item_size(scope: &Scope, at: usize, end: usize) -> Sized
+    requires { SomeRest scope.now.table.now scope.now.configuration.now scope.now.places.now.starts scope.now.places.now.ends at end × (at < end) }
+    ensures { SizedIs scope.now.table.now scope.now.configuration.now scope.now.places.now.starts scope.now.places.now.ends at end result }
 {
-    if gives_one_node(table, at) {
-        let next = value::short::call_end(table, at);
+    if gives_one_node(scope.table, at) {
         return Sized {
             words: 2,
-            next: next,
+            next: value::short::call_end(scope.table, at),
         };
     }
-    if is_update(table, at) {
-        return update_size(table, configuration, at, end, starts, ends);
+    if is_update(scope.table, at) {
+        return update_size(scope, at, end);
     }
-    let x = item(table, configuration, at, end, starts, ends);
-    let v = x.value;
-    let n = value::size(v);
+    let x = item(scope, at, end);
     Sized {
-        words: n,
+        words: value::size(x.value),
         next: x.next,
     }
 }
 
-// Whether there is room for the words of the items from a place up to another.
-pub fn measure_right<'a>(
-    table: &'a [i64],
-    configuration: &'a [i64],
-    at: usize,
-    end: usize,
-    starts: &Places,
-    ends: &Places,
-    room: usize,
-) -> bool
-    requires { SomeRest table.now configuration.now starts.now ends.now at end }
-    ensures { MeasureRightIs table.now configuration.now starts.now ends.now at end room result }
+// Whether there is room for the words of the items of a right.
+pub fn measure_right(scope: &Scope, right: Span, room: usize) -> bool
+    requires { SomeRest scope.now.table.now scope.now.configuration.now scope.now.places.now.starts scope.now.places.now.ends right.from right.to }
+    ensures { MeasureRightIs scope.now.table.now scope.now.configuration.now scope.now.places.now.starts scope.now.places.now.ends right.from right.to room result }
 {
-    let mut i = at;
+    let mut i = right.from;
     let mut left = room;
-    while i < end {
-        let x = item_size(table, configuration, i, end, starts, ends);
-        let n = x.words;
-        if left < n {
+    while i < right.to {
+        let x = item_size(scope, i, right.to);
+        if left < x.words {
             return false;
         }
-        left -= n;
+        left -= x.words;
         i = x.next;
     }
     true
@@ -216,112 +158,75 @@ pub struct Written {
 }
 
 // AN UPDATE'S WORDS.
-fn write_update<'a>(
-    table: &'a [i64],
-    configuration: &'a [i64],
-    at: usize,
-    end: usize,
-    starts: &Places,
-    ends: &Places,
-    out: &mut [i64],
-    o: usize,
-) -> Written
-    requires { FittingItem table.now configuration.now starts.now ends.now at end o (length out.old) × IsUpdate table.now at }
-    ensures { WriteItemIs table.now configuration.now starts.now ends.now at end out.old o out.new result }
+fn write_update(scope: &Scope, at: usize, end: usize, out: &mut [i64], o: usize) -> Written
+    requires { FittingItem scope.now.table.now scope.now.configuration.now scope.now.places.now.starts scope.now.places.now.ends at end o (length out.old) × IsUpdate scope.now.table.now at }
+    ensures { WriteItemIs scope.now.table.now scope.now.configuration.now scope.now.places.now.starts scope.now.places.now.ends at end out.old o out.new result }
 {
-    let p = update_parts(table, configuration, at, end, starts, ends);
-    let d = p.dictionary;
-    let k = p.key;
-    let v = p.term;
-    let plan = value::update::plan_of(table, configuration, d, k);
-    let e = value::update::put_plan(out, o, table, configuration, d, plan, v);
+    let p = update_parts(scope, at, end);
+    let plan = value::update::plan_of(scope.table, scope.configuration, p.dictionary, p.key);
+    let place = value::update::put_plan(
+        out,
+        o,
+        scope.table,
+        scope.configuration,
+        p.dictionary,
+        plan,
+        p.term,
+    );
     Written {
-        place: e,
+        place,
         next: p.next,
     }
 }
 
 // Writes one item's words from a place of out on.
-pub fn write_item<'a>(
-    table: &'a [i64],
-    configuration: &'a [i64],
-    at: usize,
-    end: usize,
-    starts: &Places,
-    ends: &Places,
-    out: &mut [i64],
-    o: usize,
-) -> Written
-    requires { FittingItem table.now configuration.now starts.now ends.now at end o (length out.old) }
-    ensures { WriteItemIs table.now configuration.now starts.now ends.now at end out.old o out.new result }
+fn write_item(scope: &Scope, at: usize, end: usize, out: &mut [i64], o: usize) -> Written
+    requires { FittingItem scope.now.table.now scope.now.configuration.now scope.now.places.now.starts scope.now.places.now.ends at end o (length out.old) }
+    ensures { WriteItemIs scope.now.table.now scope.now.configuration.now scope.now.places.now.starts scope.now.places.now.ends at end out.old o out.new result }
 {
-    if is_update(table, at) {
-        return write_update(table, configuration, at, end, starts, ends, out, o);
+    if is_update(scope.table, at) {
+        return write_update(scope, at, end, out, o);
     }
-    write_value(table, configuration, at, end, starts, ends, out, o)
+    write_value(scope, at, end, out, o)
 }
 
 // The words of an item that is no update: a short call's two as they are computed, a node's two, else those of the item's value.
-fn write_value<'a>(
-    table: &'a [i64],
-    configuration: &'a [i64],
-    at: usize,
-    end: usize,
-    starts: &Places,
-    ends: &Places,
-    out: &mut [i64],
-    o: usize,
-) -> Written
-    requires { FittingItem table.now configuration.now starts.now ends.now at end o (length out.old) × NoUpdate table.now at }
-    ensures { WriteItemIs table.now configuration.now starts.now ends.now at end out.old o out.new result }
+fn write_value(scope: &Scope, at: usize, end: usize, out: &mut [i64], o: usize) -> Written
+    requires { FittingItem scope.now.table.now scope.now.configuration.now scope.now.places.now.starts scope.now.places.now.ends at end o (length out.old) × NoUpdate scope.now.table.now at }
+    ensures { WriteItemIs scope.now.table.now scope.now.configuration.now scope.now.places.now.starts scope.now.places.now.ends at end out.old o out.new result }
 {
-    let tag = term::word(table, at);
+    let tag = scope.table[at];
     if tag == term::CALL {
-        if value::short::is_short_call(table, at) {
-            let r = value::short::short_call(table, configuration, at, starts);
-            let v = value::leaf::given(r);
-            let e = value::put(out, o, table, configuration, v);
+        if value::short::is_short_call(scope.table, at) {
+            let root = scope.short_call(at);
             return Written {
-                place: e,
+                place: scope.put(out, o, value::leaf::given(root)),
                 next: at + 6,
             };
         }
-    } else {
-        if tag != term::VARIABLE {
-            let datum = term::word(table, at + 1);
-            let e = value::put(out, o, table, configuration, Value::Computed(tag, datum));
-            return Written {
-                place: e,
-                next: at + 2,
-            };
-        }
+    } else if tag != term::VARIABLE {
+        let node = Value::Computed(tag, scope.table[at + 1]);
+        return Written {
+            place: scope.put(out, o, node),
+            next: at + 2,
+        };
     }
-    let x = item(table, configuration, at, end, starts, ends);
-    let v = x.value;
-    let e = value::put(out, o, table, configuration, v);
+    let x = item(scope, at, end);
     Written {
-        place: e,
+        place: scope.put(out, o, x.value),
         next: x.next,
     }
 }
 
-// Writes the items' words from the start of out, and says how many.
-pub fn write_right<'a>(
-    table: &'a [i64],
-    configuration: &'a [i64],
-    at: usize,
-    end: usize,
-    starts: &Places,
-    ends: &Places,
-    out: &mut [i64],
-) -> usize
-    requires { FittingRest table.now configuration.now starts.now ends.now at end (length out.old) }
-    ensures { WriteRightIs table.now configuration.now starts.now ends.now at end out.old out.new result }
+// Writes the words of the items of a right from the start of out, and says how many.
+pub fn write_right(scope: &Scope, right: Span, out: &mut [i64]) -> usize
+    requires { FittingRest scope.now.table.now scope.now.configuration.now scope.now.places.now.starts scope.now.places.now.ends right.from right.to (length out.old) }
+    ensures { WriteRightIs scope.now.table.now scope.now.configuration.now scope.now.places.now.starts scope.now.places.now.ends right.from right.to out.old out.new result }
 {
-    let mut i = at;
+    let mut i = right.from;
     let mut o: usize = 0;
-    while i < end {
-        let x = write_item(table, configuration, i, end, starts, ends, out, o);
+    while i < right.to {
+        let x = write_item(scope, i, right.to, out, o);
         o = x.place;
         i = x.next;
     }

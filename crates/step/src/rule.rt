@@ -1,194 +1,113 @@
-// One rule at a configuration, over checked words and the table's index: its left, its conditions, the words of its right.
-ghost use Rattle.std.specs.Prelude.{◌≡◌, max, length};
-ghost use Rattle.minuska.specs.Bridge.Place.{Indexed, Names, Accepted, Decides};
-ghost use Rattle.step.specs.Apply.{SomeMatched, MatchIs, HoldIs, missed, JudgeIs, FitsIs, WordsFit, WriteIs};
-ghost use Rattle.step.specs.Verdict.{code, DecodedIs};
+// One rule at a configuration: its left, its conditions, the words of its right.
+ghost use Rattle.std.specs.Prelude.{◌≡◌, length};
+ghost use Rattle.minuska.specs.Bridge.Place.{Names};
+ghost use Rattle.step.specs.Apply.{SomeMatched, MatchIs, HoldIs, FitsIs, WordsFit, WriteIs};
+ghost use Rattle.step.specs.Verdict.{JudgeIs};
 
-use crate::conditions::HowFar;
-use crate::matching::Compared;
-use minuska::Index;
-use minuska::limits::MAX_TERM_NODES;
-use term::Places;
+use table::checked::Table;
+use term::configuration::Configuration;
+use term::places::Places;
+use value::Scope;
 
-// Whether a rule applies to a configuration, or why not.
-#[derive(Clone, Copy)]
-pub enum Verdict {
-    // its left does not match: how many of the left's nodes in preorder were compared, the last of which disagrees
-    Misfit(usize),
+// Why a rule does not apply.
+#[derive(Clone, Copy, Debug, PartialEq, Eq)]
+pub enum Obstacle {
+    // the place, from 0 in preorder, of the first node of its left that disagrees
+    Left(usize),
     // its left matches: the number, from 0, of its first condition that fails
-    Fails(usize),
-    Applies,
+    Condition(usize),
 }
 
-// Judges a rule. Where it applies, the places of its variables' terms stand in starts and ends.
-pub fn judge<'a>(
-    table: &'a [i64],
-    index: &Index,
+// Judges a rule. Where its left matches, the parts of its variables stand in places.
+pub fn judge(
+    table: Table,
     rule: usize,
-    configuration: &'a [i64],
-    starts: &mut Places,
-    ends: &mut Places,
-) -> Verdict
-    requires { Indexed table.now index.now × Accepted configuration.now × Names table.now rule }
-    ensures { JudgeIs table.now configuration.now rule starts.new ends.new result }
+    configuration: Configuration,
+    places: &mut Places,
+) -> Result<(), Obstacle>
+    requires { Names table.words.now rule }
+    ensures { JudgeIs table.entry.words.now configuration.entry.words.now rule places.new.starts places.new.ends result }
 {
-    match compare_left(table, index, rule, configuration, starts, ends) {
-        Compared::Until(count) => Verdict::Misfit(count),
-        Compared::All(_) => match hold_conditions(table, index, rule, configuration, starts, ends) {
-            HowFar::Until(number) => Verdict::Fails(number),
-            HowFar::All => Verdict::Applies,
-        },
-    }
+    compare_left(table, rule, configuration, places).map_err(Obstacle::Left)?;
+    hold_conditions(table, rule, configuration, places).map_err(Obstacle::Condition)
 }
 
-// Whether a verdict is that a rule applies.
-pub fn applies(verdict: Verdict) -> bool
-    ensures { Decides result (verdict ≡ Verdict.Applies) }
-{
-    match verdict {
-        Verdict::Applies => true,
-        Verdict::Misfit(_) => false,
-        Verdict::Fails(_) => false,
-    }
-}
-
-// How many nodes of a left were compared where they disagree; 0 where they agree.
-pub fn misfit(verdict: Verdict) -> usize
-    ensures { result ≡ missed verdict }
-{
-    match verdict {
-        Verdict::Misfit(count) => count,
-        Verdict::Fails(_) => 0,
-        Verdict::Applies => 0,
-    }
-}
-
-// A verdict as one number: 0 where the rule applies; how many of the left's nodes were compared; or the failing condition's number, counted down from the highest.
-pub fn coded(verdict: Verdict) -> usize
-    ensures { result ≡ code verdict }
-{
-    match verdict {
-        Verdict::Misfit(count) => count,
-        Verdict::Fails(number) => !number,
-        Verdict::Applies => 0,
-    }
-}
-
-// The verdict that a number is.
-pub fn decoded(number: usize) -> Verdict
-    ensures { DecodedIs number result }
-{
-    if number == 0 {
-        return Verdict::Applies;
-    }
-    if number <= MAX_TERM_NODES {
-        return Verdict::Misfit(number);
-    }
-    Verdict::Fails(!number)
-}
-
-// How many nodes of the rule's left were compared with the configuration; the places of its variables' terms go to starts and ends.
-pub fn compare_left(
-    table: &[i64],
-    index: &Index,
+// Whether the rule's left matches, or the place of the first of its nodes that disagrees; the parts of its variables go to places.
+fn compare_left(
+    table: Table,
     rule: usize,
-    configuration: &[i64],
-    starts: &mut Places,
-    ends: &mut Places,
-) -> Compared
-    requires { Indexed table.now index.now × Accepted configuration.now × Names table.now rule }
-    ensures { MatchIs table.now configuration.now rule starts.new ends.new result }
+    configuration: Configuration,
+    places: &mut Places,
+) -> Result<(), usize>
+    requires { Names table.words.now rule }
+    ensures { MatchIs table.entry.words.now configuration.entry.words.now rule places.new.starts places.new.ends result }
 {
-    let left = table::index::left(table, index, rule);
-    crate::matching::match_left(table, left.from, left.to, configuration, starts, ends)
+    let left = table.left(rule);
+    crate::matching::match_left(table.words, left, configuration, places)
 }
 
-// How far the rule's conditions hold.
-pub fn hold_conditions<'a>(
-    table: &'a [i64],
-    index: &Index,
+// Whether the rule's conditions hold, or the number of the first that fails.
+fn hold_conditions(
+    table: Table,
     rule: usize,
-    configuration: &'a [i64],
-    starts: &Places,
-    ends: &Places,
-) -> HowFar
-    requires { Indexed table.now index.now × SomeMatched table.now configuration.now rule starts.now ends.now }
-    ensures { HoldIs table.now configuration.now rule starts.now ends.now result }
+    configuration: Configuration,
+    places: &Places,
+) -> Result<(), usize>
+    requires { SomeMatched table.words.now configuration.words.now rule places.now.starts places.now.ends }
+    ensures { HoldIs table.entry.words.now configuration.entry.words.now rule places.now.starts places.now.ends result }
 {
-    let conditions = table::index::conditions(table, index, rule);
-    crate::conditions::hold_all(
-        table,
-        configuration,
-        conditions.from,
-        conditions.to,
-        starts,
-        ends,
-    )
-}
-
-// The greater of two numbers.
-fn greater(a: usize, b: usize) -> usize
-    ensures { result ≡ max a b }
-{
-    if a < b {
-        return b;
-    }
-    a
+    let conditions = table.conditions(rule);
+    let scope = Scope {
+        table: table.words,
+        configuration: configuration.words,
+        places,
+    };
+    crate::conditions::hold_all(&scope, conditions)
 }
 
 // Whether there is room for the words of the rule's successor. There is if the right's sizes show it: two words for each node that gives one, and for each term
 // that is a part of the configuration or of a literal of the right, no more than the greater of the two has. Else the right is measured.
-pub fn fits<'a>(
-    table: &'a [i64],
-    index: &Index,
+pub fn fits(
+    table: Table,
     rule: usize,
-    configuration: &'a [i64],
-    starts: &Places,
-    ends: &Places,
+    configuration: Configuration,
+    places: &Places,
     room: usize,
 ) -> bool
-    requires { Indexed table.now index.now × SomeMatched table.now configuration.now rule starts.now ends.now }
-    ensures { FitsIs table.now configuration.now rule starts.now ends.now room result }
+    requires { SomeMatched table.words.now configuration.words.now rule places.now.starts places.now.ends }
+    ensures { FitsIs table.entry.words.now configuration.entry.words.now rule places.now.starts places.now.ends room result }
 {
-    let sizes = table::index::sizes(table, index, rule);
-    let right = table::index::right(table, index, rule);
-    let most = greater(configuration.len(), right.to - right.from);
+    let sizes = table.sizes(rule);
+    let right = table.right(rule);
+    let most = configuration.words.len().max(right.to - right.from);
     if 2 * sizes.fixed + sizes.leaves * most <= room {
         return true;
     }
-    crate::right::measure_right(
-        table,
-        configuration,
-        right.from,
-        right.to,
-        starts,
-        ends,
-        room,
-    )
+    let scope = Scope {
+        table: table.words,
+        configuration: configuration.words,
+        places,
+    };
+    crate::right::measure_right(&scope, right, room)
 }
 
 // Writes the words of the rule's successor from the start of out, and says how many.
-pub fn write_successor<'a>(
-    table: &'a [i64],
-    index: &Index,
+pub fn write_successor(
+    table: Table,
     rule: usize,
-    configuration: &'a [i64],
-    starts: &Places,
-    ends: &Places,
+    configuration: Configuration,
+    places: &Places,
     out: &mut [i64],
 ) -> usize
-    requires indexed { Indexed table.now index.now × SomeMatched table.now configuration.now rule starts.now ends.now }
-    requires words_fit { WordsFit table.now configuration.now rule starts.now ends.now (length out.old) }
-    ensures { WriteIs table.now configuration.now rule starts.now ends.now out.old out.new result }
+    requires matched { SomeMatched table.words.now configuration.words.now rule places.now.starts places.now.ends }
+    requires words_fit { WordsFit table.words.now configuration.words.now rule places.now.starts places.now.ends (length out.old) }
+    ensures { WriteIs table.entry.words.now configuration.entry.words.now rule places.now.starts places.now.ends out.old out.new result }
 {
-    let right = table::index::right(table, index, rule);
-    crate::right::write_right(
-        table,
-        configuration,
-        right.from,
-        right.to,
-        starts,
-        ends,
-        out,
-    )
+    let right = table.right(rule);
+    let scope = Scope {
+        table: table.words,
+        configuration: configuration.words,
+        places,
+    };
+    crate::right::write_right(&scope, right, out)
 }
