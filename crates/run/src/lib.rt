@@ -5,14 +5,15 @@ ghost use Rattle.std.specs.Prelude.{◌≡◌, ◌*◌, ◌/◌, ◌≤◌, leng
 ghost use Rattle.minuska.specs.Contract.{RunContract};
 ghost use Rattle.minuska.specs.Slice.{write};
 ghost use Rattle.minuska.specs.Computed.Outcome.{step_outcome, run_short};
-ghost use Rattle.minuska.specs.Bridge.Place.{Indexed, Accepted};
 ghost use Rattle.run.specs.Sides.{by_side, other, StartsWith, StepsInto, StepsAcross, judged};
 ghost use Rattle.run.specs.Allowed.{Allowed};
 ghost use Rattle.run.specs.Ending.{RunEnds, Finishes};
 
-use minuska::limits::MAX_STEPS;
-use minuska::{INDEX_LEN, Index, Refusal, RunAnswer, Stepped};
+use minuska::limits::{MAX_RULES, MAX_STEPS};
+use minuska::{Refusal, Row, RunAnswer, Stepped};
 use std::ops::ControlFlow;
+use table::checked::Table;
+use term::configuration::Configuration;
 
 // Where the current configuration stands: as it was given, in out, or in spare.
 #[derive(Clone, Copy)]
@@ -42,39 +43,39 @@ fn other_side(side: Side) -> Side
 }
 
 // The step of the configuration at the start of one slice, written into the first words of another.
-fn step_into<'a>(
-    table: &'a [i64],
-    index: &Index,
-    from: &'a [i64],
+fn step_into(
+    table: Table,
+    from: &[i64],
     nodes: usize,
     to: &mut [i64],
     words: usize,
 ) -> Result<Option<Stepped>, Refusal>
-    requires { Indexed table.now index.now × StartsWith from.now nodes × (words ≤ length to.old) }
-    ensures { StepsInto (step_outcome table.now (take (2 * nodes) from.now) words) words to.old to.new result }
+    requires { StartsWith from.now nodes × (words ≤ length to.old) }
+    ensures { StepsInto (step_outcome table.entry.words.now (take (2 * nodes) from.now) words) words to.old to.new result }
 {
-    let end = 2 * nodes;
-    step::apply_earliest(table, index, &from[..end], &mut to[..words])
+    let current = Configuration {
+        words: &from[..2 * nodes],
+    };
+    step::earliest(table, current, &mut to[..words])
 }
 
 // The step of the current configuration, written into the slice whose turn it is.
-fn step_across<'a>(
-    table: &'a [i64],
-    index: &Index,
-    configuration: &'a [i64],
+fn step_across(
+    table: Table,
+    configuration: Configuration,
     side: Side,
     nodes: usize,
     words: usize,
     out: &mut [i64],
     spare: &mut [i64],
 ) -> Result<Option<Stepped>, Refusal>
-    requires { Indexed table.now index.now × StartsWith (by_side side configuration.now out.old spare.old) nodes × (words ≤ length out.old) × (words ≤ length spare.old) }
-    ensures { StepsAcross table.now configuration.now side nodes words out.old spare.old out.new spare.new result }
+    requires { StartsWith (by_side side configuration.words.now out.old spare.old) nodes × (words ≤ length out.old) × (words ≤ length spare.old) }
+    ensures { StepsAcross table.entry.words.now configuration.entry.words.now side nodes words out.old spare.old out.new spare.new result }
 {
     match side {
-        Side::Initial => step_into(table, index, configuration, nodes, out, words),
-        Side::Out => step_into(table, index, out, nodes, spare, words),
-        Side::Spare => step_into(table, index, spare, nodes, out, words),
+        Side::Initial => step_into(table, configuration.words, nodes, out, words),
+        Side::Out => step_into(table, out, nodes, spare, words),
+        Side::Spare => step_into(table, spare, nodes, out, words),
     }
 }
 
@@ -96,23 +97,22 @@ fn judge(
 }
 
 // The steps, up to the end.
-fn advance<'a>(
-    table: &'a [i64],
-    index: &Index,
-    configuration: &'a [i64],
+fn advance(
+    table: Table,
+    configuration: Configuration,
     budget: usize,
     limit: usize,
     out: &mut [i64],
     spare: &mut [i64],
 ) -> Ended
-    requires { Indexed table.now index.now × Accepted configuration.now × Allowed (length configuration.now / 2) budget limit (length out.old) (length spare.old) }
-    ensures { RunEnds table.now configuration.now budget limit out.old spare.old out.new spare.new result }
+    requires { Allowed (length configuration.words.now / 2) budget limit (length out.old) (length spare.old) }
+    ensures { RunEnds table.entry.words.now configuration.entry.words.now budget limit out.old spare.old out.new spare.new result }
 {
     let words = 2 * limit;
     let mut side = Side::Initial;
-    let mut nodes = configuration.len() / 2;
+    let mut nodes = configuration.words.len() / 2;
     for k in 0..=budget {
-        let answer = step_across(table, index, configuration, side, nodes, words, out, spare);
+        let answer = step_across(table, configuration, side, nodes, words, out, spare);
         match judge(answer, k, budget) {
             ControlFlow::Continue(made) => {
                 side = other_side(side);
@@ -169,29 +169,28 @@ fn run_short(limit: usize, out: usize, spare: usize) -> bool
 }
 
 // The run of checked words, where nothing is refused. A function on checked words, for crates above.
-pub fn run_accepted<'a>(
-    table: &'a [i64],
-    index: &Index,
-    configuration: &'a [i64],
+pub fn run_accepted(
+    table: Table,
+    configuration: Configuration,
     budget: usize,
     limit: usize,
     out: &mut [i64],
     spare: &mut [i64],
 ) -> RunAnswer
-    requires { Indexed table.now index.now × Accepted configuration.now × Allowed (length configuration.now / 2) budget limit (length out.old) (length spare.old) }
-    ensures { RunContract table.now configuration.now budget limit out.old spare.old out.new spare.new (Ok result) }
+    requires { Allowed (length configuration.words.now / 2) budget limit (length out.old) (length spare.old) }
+    ensures { RunContract table.entry.words.now configuration.entry.words.now budget limit out.old spare.old out.new spare.new (Ok result) }
 {
-    let ended = advance(table, index, configuration, budget, limit, out, spare);
+    let ended = advance(table, configuration, budget, limit, out, spare);
     let words = 2 * limit;
     let side = ended.side;
-    finish(side, ended.nodes, words, configuration, out, spare);
+    finish(side, ended.nodes, words, configuration.words, out, spare);
     ended.answer
 }
 
 // The run: a budget of steps, a limit in nodes, out and spare of at least twice as many words.
-pub fn run<'a>(
-    table: &'a [i64],
-    configuration: &'a [i64],
+pub fn run(
+    table: &[i64],
+    configuration: &[i64],
     budget: usize,
     limit: usize,
     out: &mut [i64],
@@ -199,10 +198,17 @@ pub fn run<'a>(
 ) -> Result<RunAnswer, Refusal>
     ensures { RunContract table.now configuration.now budget limit out.old spare.old out.new spare.new result }
 {
-    let mut index = [0u16; INDEX_LEN];
-    step::accept(table, configuration, &mut index)?;
-    let nodes = configuration.len() / 2;
+    let mut index = [Row::EMPTY; MAX_RULES];
+    let (table, configuration) = step::checked(table, configuration, &mut index)?;
+    let nodes = configuration.words.len() / 2;
     let short = run_short(limit, out.len(), spare.len());
     sizes::check_sizes(budget, MAX_STEPS, nodes, limit, short)?;
-    Ok(run_accepted(table, &index, configuration, budget, limit, out, spare))
+    Ok(run_accepted(
+        table,
+        configuration,
+        budget,
+        limit,
+        out,
+        spare,
+    ))
 }
