@@ -12,12 +12,11 @@ use lib.Signed.{le_z, mag}
 use mir.Syntax.{w64}
 use mir.Val.{SFits}
 use Rattle.minuska.proofs.Tests.{and_both, and_left, and_right}
-use Rattle.minuska.specs.Computed.Read.{plain_children, dictionary_tag}
+use Rattle.minuska.specs.Computed.Read.{dictionary_tag}
 use Rattle.minuska.specs.Dictionary.{max_entries}
 use Rattle.minuska.specs.Term.{Label, call, dictionary, error, symbol, truth, variable, whole}
 use Rattle.minuska.specs.Word.{symbols, datum_word, ok_head, tag_word}
 use Rattle.term.specs.declared.ground.TheConstants.{NODES}
-use Rattle.term.specs.TermAt.{NodeWords}
 use Rattle.term.specs.TermEnd.{ground_label, tagged_label, TaggedNode, GroundNode, tag_children}
 use Rattle.term.proofs.NodeLaw.{Node, node_children, children_node, no_node, tagged_count, ground_count, weaker, tagged_ground, node_words, dictionary_words}
 

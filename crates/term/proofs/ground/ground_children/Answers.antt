@@ -1,6 +1,5 @@
 -- A node that is no dictionary, or a dictionary's.
-use Rattle.std.proofs.Common.{◌≡◌, ◌≤◌, ℕ, pos, arith, rules, w64, FitsSigned, nat_abs}
-use Rattle.std.proofs.lemmas.Grind.{common_steps}
+use Rattle.std.proofs.Common.{◌≡◌, ◌≤◌, pos, arith, w64, FitsSigned, nat_abs}
 use Rattle.std.proofs.lemmas.Int.{ints, to_z-of_z}
 use Rattle.minuska.specs.Computed.Read.{dictionary_tag, plain_children}
 use Rattle.minuska.specs.Dictionary.{max_entries}
