@@ -12,14 +12,13 @@ use lib.Signed.{le_z, mag}
 use mir.Syntax.{w64}
 use mir.Val.{SFits}
 use Rattle.minuska.proofs.Tests.{and_both, and_left, and_right}
-use Rattle.minuska.specs.Computed.Read.{plain_children, dictionary_tag}
+use Rattle.minuska.specs.Computed.Read.{dictionary_tag, plain_children}
 use Rattle.minuska.specs.Dictionary.{max_entries}
 use Rattle.minuska.specs.Term.{Label, call, dictionary, error, symbol, truth, variable, whole}
 use Rattle.minuska.specs.Word.{symbols, datum_word, ok_head, tag_word}
 use Rattle.term.specs.declared.ground.TheConstants.{NODES}
-use Rattle.term.specs.TermAt.{NodeWords}
 use Rattle.term.specs.TermEnd.{ground_label, tagged_label, TaggedNode, GroundNode, tag_children}
-use Rattle.term.proofs.NodeLaw.{Node, node_children, children_node, no_node, tagged_count, ground_count, weaker, tagged_ground, node_words, dictionary_words}
+use Rattle.term.proofs.NodeLaw.{Node, node_children, children_node, no_node, tagged_count, tagged_other, plain_by_tag, ground_count, weaker, tagged_ground, node_words, dictionary_words}
 
 -- a tag's entries, and whether a datum is between them
 abbrev least : ℕ → ℤ
@@ -144,7 +143,7 @@ module _ (t d : ℤ) (tag : ℕ) (f : SFits w64 d) (p : t ≡ pos tag) (i : tag 
   above_most g h = ranged false (ap (λ (b : Bool). b && le_z d (most tag)) g ∙ h)
 
 -- ---- a node of a ground term: one of those, or a dictionary
-tagged_passes : (t d : ℤ) → TaggedNode t d true → GroundNode t d true
+pub tagged_passes : (t d : ℤ) → TaggedNode t d true → GroundNode t d true
 tagged_passes t d n =
     let m = weaker tagged_label ground_label tagged_ground (children_node tagged_label t d (tag_children t) n.children) in
     record { children = node_children ground_label t d (tag_children t) m ∙ ap {B = Option ℕ} some (ground_count t d (tag_children t) m) }
@@ -177,6 +176,8 @@ neither_passes t d g f = record { children = no_node ground_label t d (λ m n. �
         let w = dictionary_words t d (node_words ground_label t d m (node_children ground_label t d m n)) e in
         f w.0 e w.1 w.2
 
-pub as_ground : (t d : ℤ) (r : Bool) → (t ≡ pos dictionary_tag → ⊥) → TaggedNode t d r → GroundNode t d r
-as_ground t d true f n = tagged_passes t d n
-as_ground t d false f n = neither_passes t d n (λ m e p q. f e)
+pub tagged_plain : (t d : ℤ) → TaggedNode t d true → tag_children t ≡ plain_children t d
+tagged_plain t d n = plain_by_tag t d (tagged_other t d (tag_children t) (children_node tagged_label t d (tag_children t) n.children))
+
+pub other_fails : (t d : ℤ) → (t ≡ pos dictionary_tag → ⊥) → TaggedNode t d false → GroundNode t d false
+other_fails t d f n = neither_passes t d n (λ m e p q. f e)

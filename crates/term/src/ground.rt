@@ -98,8 +98,11 @@ pub fn ground_children(t: i64, d: i64) -> Option<usize>
     ensures node { GroundNode t d (is_some result) }
     ensures count { IfSome result (λ m. m ≡ plain_children t d) }
 {
+    if let Some(children) = tagged_children(t, d) {
+        return Some(children);
+    }
     if t != DICTIONARY {
-        return tagged_children(t, d);
+        return None;
     }
     match d {
         0..=MAX_ENTRIES => Some(2 * d as usize),

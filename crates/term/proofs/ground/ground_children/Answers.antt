@@ -1,24 +1,28 @@
 -- A node that is no dictionary, or a dictionary's.
-use Rattle.std.proofs.Common.{◌≡◌, ◌≤◌, ℕ, pos, arith, rules, w64, FitsSigned, nat_abs}
-use Rattle.std.proofs.lemmas.Grind.{common_steps}
+use Rattle.std.proofs.Common.{◌∙◌, ◌≡◌, ◌≤◌, pos, arith, w64, FitsSigned, nat_abs}
 use Rattle.std.proofs.lemmas.Int.{ints, to_z-of_z}
 use Rattle.minuska.specs.Computed.Read.{dictionary_tag, plain_children}
 use Rattle.minuska.specs.Dictionary.{max_entries}
-use Rattle.term.proofs.NodeLaw.{plain_by_tag}
-use Rattle.term.proofs.GroundLaw.{as_ground, dictionary_passes}
+use Rattle.term.proofs.GroundLaw.{tagged_passes, tagged_plain, other_fails, dictionary_passes}
 use Rattle.term.proofs.ground.ground_children.Goals as goal
+
+pub returns-in-Some-clause-node : goal.returns-in-Some-clause-node
+returns-in-Some-clause-node c =
+    let t : FitsSigned w64 c.args.t = c.ranges.t in
+    let d : FitsSigned w64 c.args.d = c.ranges.d in
+    tagged_passes c.args.t c.args.d (rw (to_z-of_z w64 _ t, to_z-of_z w64 _ d) at c.in-Some.ensures.node)
+
+pub returns-in-Some-clause-count : goal.returns-in-Some-clause-count
+returns-in-Some-clause-count c =
+    let t : FitsSigned w64 c.args.t = c.ranges.t in
+    let d : FitsSigned w64 c.args.d = c.ranges.d in
+    (rw (to_z-of_z w64 _ t) at c.in-Some.ensures.count) ∙ tagged_plain c.args.t c.args.d (rw (to_z-of_z w64 _ t, to_z-of_z w64 _ d) at c.in-Some.ensures.node)
 
 pub returns-then-t-ne-DICTIONARY-clause-node : goal.returns-then-t-ne-DICTIONARY-clause-node
 returns-then-t-ne-DICTIONARY-clause-node c =
     let t : FitsSigned w64 c.args.t = c.ranges.t in
     let d : FitsSigned w64 c.args.d = c.ranges.d in
-    as_ground c.args.t c.args.d _ (λ e. grind (arith, ints)) (rw (to_z-of_z w64 _ t, to_z-of_z w64 _ d) at c.tagged_children.ensures.node)
-
-pub returns-then-t-ne-DICTIONARY-clause-count : goal.returns-then-t-ne-DICTIONARY-clause-count
-returns-then-t-ne-DICTIONARY-clause-count c =
-    let t : FitsSigned w64 c.args.t = c.ranges.t in
-    let e = plain_by_tag c.args.t c.args.d (λ e. grind (arith, ints)) in
-    rw (← e) (rw (to_z-of_z w64 _ t) at c.tagged_children.ensures.count)
+    other_fails c.args.t c.args.d (λ e. grind (arith, ints)) (rw (to_z-of_z w64 _ t, to_z-of_z w64 _ d) at c.in_default.ensures.node)
 
 pub returns-in-0-to-64-clause-node : goal.returns-in-0-to-64-clause-node
 returns-in-0-to-64-clause-node c =
