@@ -1,11 +1,10 @@
 -- A call by its function's code: an update is no expression.
-use mathlib.Core.Path.{◌≡◌, refl, sym, ap, ap₂}
-use mathlib.Core.Bool.{Bool, true, false, not, cond}
+use mathlib.Core.Path.{◌≡◌, refl, ap}
+use mathlib.Core.Bool.{Bool, true, false, not}
 use Prim.Native.Nat.{ℕ}
 use lib.Dec.{eqb}
 use borrow.Author.Tests.{eqb-true}
 use Rattle.minuska.specs.Rule.{updating, in_expression}
-use Rattle.minuska.specs.Bridge.Walk.{looking, fixed_call, leaves_call}
 
 other : (c n : ℕ) → (c ≡ n → ⊥) → eqb c n ≡ false
 other c n f = pick (eqb c n) refl

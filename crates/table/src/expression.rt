@@ -98,7 +98,7 @@ pub fn expressions_end<const MIXED: bool>(
         let turn = expression_turn::<MIXED>(table, i, seen)?;
         i = turn.end;
         k = k - 1 + turn.more;
-        met = met | turn.met;
+        met |= turn.met;
     }
     Some(Walked { end: i, met })
 }

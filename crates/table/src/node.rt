@@ -6,7 +6,7 @@ ghost use Rattle.table.specs.Node.{known_functions, node_of, side_level, Known, 
 
 use crate::number::number_below;
 use term::VARIABLES;
-use term::ground::in_range;
+use term::ground::tagged_children;
 
 // The functions whose codes are below have one node for a value, and take no dictionary.
 const PLAIN_FUNCTIONS: usize = 15;
@@ -75,10 +75,7 @@ fn classify<const MIXED: bool>(t: i64, d: i64) -> Option<Node>
     if t == term::CALL {
         return call::<MIXED>(d);
     }
-    if !in_range(t, d) {
-        return None;
-    }
-    let children = term::tag_children(t);
+    let children = tagged_children(t, d)?;
     Some(Node::Plain { children })
 }
 

@@ -37,9 +37,5 @@ pub fn side_part<const LEFT: bool>(
 pub fn expression_part(table: &[i64], at: usize, seen: &[bool; VARIABLES]) -> Option<usize>
     ensures { result ≡ answered (part_end table.now at Expression seen.now) }
 {
-    let plain = expression::<PLAIN>(table, at, seen);
-    if plain.is_some() {
-        return plain;
-    }
-    expression::<MIXED>(table, at, seen)
+    expression::<PLAIN>(table, at, seen).or_else(|| expression::<MIXED>(table, at, seen))
 }

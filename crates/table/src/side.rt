@@ -145,7 +145,7 @@ pub fn side_end<const LEFT: bool, const MIXED: bool>(
         fixed += turn.fixed;
         leaves += turn.leaves;
         k = k - 1 + turn.more;
-        met = met | turn.met;
+        met |= turn.met;
     }
     Some(SideEnd {
         end: i,
