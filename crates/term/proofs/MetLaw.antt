@@ -55,9 +55,6 @@ pub record Tagging (s : List ℤ) (at count i k : ℕ) : Type 0 where
   pub walk : Walking ground_label s at count i k
   pub none : NoneMet s at i
 
-pub tagging_yet : (s : List ℤ) (at count : ℕ) → at ≤ length s → count ≤ max_children → Tagging s at count at count
-tagging_yet s at count h l = record { inside = h; few = omega arith; walk = record { same = refl }; none = none_yet s at }
-
 module _ {s : List ℤ} {at count i k : ℕ} (g : Tagging s at count i k) where
   stops : (0 < k → i + 2 ≤ length s → TaggedNode (get_or s i (pos 0)) (get_or s (i + 1) (pos 0)) false) → TaggedTermsAre s at count (record { at = i; left = k })
   stops f = record { inside = g.inside; few = g.few; rest = ground_terms_are s at count ∙ (g.walk.same ∙ sym (ground_terms_are s i k)); none = g.none; stops = f }

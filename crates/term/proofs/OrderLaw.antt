@@ -178,10 +178,7 @@ module _ {ws : List ℤ} {at n : ℕ} {f : Forest} (o : Opened ws at n f) where
     rise_next : (z : ℤ) → rise_from z (entries f) ≡ (lt_z z (get_or ws (at + 1) (pos 0)) && rise_from (get_or ws (at + 1) (pos 0)) (entries o.rest))
     rise_next z = ap (rise_from z) entries_are ∙ next_rise z (get_or ws (at + 1) (pos 0)) o.value (entries o.rest)
 
--- no entries at all; and at most one list of entries stands at a place
-pub no_terms : {ws : List ℤ} {at n : ℕ} (f : Forest) → EntriesOf ws at n f → n ≡ 0 → f ≡ nil
-no_terms f h e = let c = h.count in childless f (omega arith)
-
+-- at most one list of entries stands at a place
 pub entries_unique : {ws : List ℤ} {at n : ℕ} (f g : Forest) → EntriesOf ws at n f → EntriesOf ws at n g → f ≡ g
 entries_unique f g x y = count_unique f g x.shape y.shape x.stands y.stands (x.count ∙ sym y.count)
 
@@ -194,12 +191,6 @@ pub record Rising (ws : List ℤ) (at n i k : ℕ) : Type 0 where
   pub same : (f : Forest) → EntriesOf ws at n f → all_rise (entries f) ≡ all_rise (entries forest)
 
 module _ {ws : List ℤ} {at n : ℕ} where
-  pub rising_none : n ≡ 0 → Rises ws at n true
-  rising_none z = record { is = λ f h. sym (ap (λ (g : Forest). all_rise (entries g)) (no_terms f h z)) }
-
-  pub rising_foreign : 0 < n → (get_or ws at (pos 0) ≡ pos 2 → ⊥) → Rises ws at n false
-  rising_foreign z g = record { is = λ f h. sym (ap all_rise (no_entries (opened f h z) g)) }
-
   pub rising_start : EntriesAt ws at n → 0 < n → get_or ws at (pos 0) ≡ pos 2 → Rising ws at n at n
   rising_start h z e =
       record { forest = h.forest; are = h.are; some_left = z; is_whole = e; same = λ f x. ap (λ (g : Forest). all_rise (entries g)) (entries_unique f h.forest x h.are) }
@@ -264,9 +255,6 @@ module _ {ws : List ℤ} {from to : ℕ} {f : Forest} (o : Front ws from to f) w
       let l = o.label in
       let cs = o.children in
       two_words ws from (length (encode (node l cs o.rest))) (tag_word l (term_count cs)) (datum_word l) (encode cs ++ encode o.rest) o.fills.stands.words
-
-  pub front_room : from + 2 ≤ to
-  front_room = let e = o.fills.ends in omega arith
 
   front_shape : Shaped o.label o.children o.rest
   front_shape = shaped o.label o.children o.rest o.fills.shape

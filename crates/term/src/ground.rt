@@ -1,59 +1,110 @@
 // The walk over ground terms whose words are not checked yet.
-ghost use Rattle.std.specs.Prelude.{◌≡◌, ◌+◌, ◌*◌, ◌≤◌, length};
-ghost use Rattle.minuska.specs.Computed.Read.{max_children};
-ghost use Rattle.term.specs.TermEnd.{GroundNode, TaggedNode, TaggedTermsAre, GroundTermsAre, ground_terms_end};
+ghost use Rattle.std.specs.Prelude.{◌≡◌, ◌+◌, ◌*◌, ◌≤◌, length, IfSome};
+ghost use Rattle.std.specs.Option.{is_some};
+ghost use Rattle.minuska.specs.Computed.Read.{max_children, plain_children};
+ghost use Rattle.term.specs.TermEnd.{tag_children, GroundNode, TaggedNode, TaggedTermsAre, GroundTermsAre, ground_terms_end};
 
-use crate::{DICTIONARY, MAX_ENTRIES, SYMBOLS, plain_children, tag_children};
+use crate::{DICTIONARY, MAX_ENTRIES, SYMBOLS};
 
 // How many tags there are, those of no node too.
 const TAGS: usize = 16;
 
-// The least and the most datum of a tag's nodes.
-#[derive(Clone, Copy)]
-struct Data {
-    least: i64,
-    most: i64,
+// The nodes of a ground term by tag: the least datum, the most, the child count. A tag that it has none of has an empty range.
+// Columns, and not a list of rows: an entry is found with two instructions less. And no match by kinds: so no branch goes by the tag.
+struct Nodes {
+    least: [i64; TAGS],
+    most: [i64; TAGS],
+    children: [usize; TAGS],
 }
 
-// A tag that no ground term has, or no node. A dictionary's is one too: its datum counts its children, so that a walk looks at it apart.
-const NONE: Data = Data { least: 0, most: -1 };
+// The most datum of a tag that no ground term has.
+const NO_VARIABLE: i64 = -1;
 
-const ERROR: Data = Data { least: 0, most: 0 };
+const NO_CALL: i64 = -1;
 
-const TRUTH: Data = Data { least: 0, most: 1 };
+const NO_NODE: i64 = -1;
 
-const WHOLE: Data = Data {
-    least: i64::MIN,
-    most: i64::MAX,
+// A dictionary's: its datum counts its children, so that a walk looks at it apart.
+const ELSEWHERE: i64 = -1;
+
+const LEAST_SYMBOL: i64 = 0;
+
+const MOST_SYMBOL: i64 = SYMBOLS - 1;
+
+static NODES: Nodes = Nodes {
+    least: [
+        0,
+        0,
+        i64::MIN,
+        0,
+        0,
+        0,
+        0,
+        0,
+        LEAST_SYMBOL,
+        LEAST_SYMBOL,
+        LEAST_SYMBOL,
+        LEAST_SYMBOL,
+        LEAST_SYMBOL,
+        LEAST_SYMBOL,
+        LEAST_SYMBOL,
+        LEAST_SYMBOL,
+    ],
+    most: [
+        0,
+        1,
+        i64::MAX,
+        NO_VARIABLE,
+        NO_CALL,
+        ELSEWHERE,
+        NO_NODE,
+        NO_NODE,
+        MOST_SYMBOL,
+        MOST_SYMBOL,
+        MOST_SYMBOL,
+        MOST_SYMBOL,
+        MOST_SYMBOL,
+        MOST_SYMBOL,
+        MOST_SYMBOL,
+        MOST_SYMBOL,
+    ],
+    children: [0, 0, 0, 0, 0, 0, 0, 0, 0, 1, 2, 3, 4, 5, 6, 7],
 };
 
-const SYMBOL: Data = Data {
-    least: 0,
-    most: SYMBOLS - 1,
-};
+// The child count of two words that are a node of a ground term whose tag alone says how many children it has: any but a dictionary.
+pub fn tagged_children(t: i64, d: i64) -> Option<usize>
+    ensures node { TaggedNode t d (is_some result) }
+    ensures count { IfSome result (λ m. m ≡ tag_children t) }
+{
+    let tag = usize::try_from(t).ok()?;
+    if TAGS <= tag {
+        return None;
+    }
+    if NODES.least[tag] <= d && d <= NODES.most[tag] {
+        return Some(NODES.children[tag]);
+    }
+    None
+}
 
-// The range of a ground term's datum by tag.
-static RANGES: [Data; TAGS] = [
-    ERROR, TRUTH, WHOLE, NONE, NONE, NONE, NONE, NONE, SYMBOL, SYMBOL, SYMBOL, SYMBOL, SYMBOL,
-    SYMBOL, SYMBOL, SYMBOL,
-];
-
-// Whether two words are a node of a ground term whose tag alone says how many children it has: any but a dictionary.
+// Whether two words are such a node.
 pub fn in_range(t: i64, d: i64) -> bool
     ensures { TaggedNode t d result }
 {
-    match usize::try_from(t) {
-        Ok(tag) if tag < TAGS => RANGES[tag].least <= d && d <= RANGES[tag].most,
-        _ => false,
-    }
+    tagged_children(t, d).is_some()
 }
 
-// Whether two words are a node of a ground term.
-#[tactic(auto, using(crate::proofs::GroundLaw::tagged_passes, crate::proofs::GroundLaw::counted))]
-pub fn is_ground(t: i64, d: i64) -> bool
-    ensures { GroundNode t d result }
+// The child count of two words that are a node of a ground term.
+pub fn ground_children(t: i64, d: i64) -> Option<usize>
+    ensures node { GroundNode t d (is_some result) }
+    ensures count { IfSome result (λ m. m ≡ plain_children t d) }
 {
-    in_range(t, d) || t == DICTIONARY && 0 <= d && d <= MAX_ENTRIES
+    if t != DICTIONARY {
+        return tagged_children(t, d);
+    }
+    match d {
+        0..=MAX_ENTRIES => Some(2 * d as usize),
+        _ => None,
+    }
 }
 
 // What a walk over ground terms has taken: the place behind it, and whether a dictionary was among it.
@@ -83,12 +134,10 @@ pub fn tagged_terms(s: &[i64], at: usize, count: usize) -> Reached
         if n - i < 2 {
             return Reached { at: i, left: k };
         }
-        let t = s[i];
-        let d = s[i + 1];
-        if !in_range(t, d) {
+        let Some(m) = tagged_children(s[i], s[i + 1]) else {
             return Reached { at: i, left: k };
-        }
-        k = k - 1 + tag_children(t);
+        };
+        k = k - 1 + m;
         i += 2;
     }
     Reached { at: i, left: 0 }
@@ -122,12 +171,7 @@ fn ground_mixed(s: &[i64], at: usize, count: usize) -> Option<usize>
         if n - i < 2 * k {
             return None;
         }
-        let t = s[i];
-        let d = s[i + 1];
-        if !is_ground(t, d) {
-            return None;
-        }
-        k = k - 1 + plain_children(t, d);
+        k = k - 1 + ground_children(s[i], s[i + 1])?;
         i += 2;
     }
     Some(i)

@@ -22,6 +22,7 @@ use crate::order::in_order;
 use minuska::Refusal;
 
 // Document 01's table of nodes, with document 02's dictionaries: its tags, a symbol's the one with no children, and how many variables, functions and symbols there are.
+// Words and no enum: a symbol's tag counts its children, so that an enum would have a field, and the walks compare words with them.
 pub const ERROR: i64 = 0;
 
 pub const TRUTH: i64 = 1;
@@ -57,7 +58,7 @@ pub struct Span {
     pub to: usize,
 }
 
-// The arity of a function.
+// The arity of a function, by its code: document 01's table has a row for each number.
 #[tactic(auto, unfolding(crate::specs::TermEnd::arity_of))]
 pub fn arity(code: usize) -> usize
     requires { code < length functions }
@@ -125,7 +126,7 @@ pub fn expression_end(s: &[i64], at: usize) -> usize
 }
 
 // The place behind so many terms that stand at a place, which have variables and calls only if `ANY`. At the first dictionary `mixed_end` goes on: this loop has no other work for one
-// than to leave.
+// than to leave. No iterator fits: how many nodes are to come is read on the way.
 fn terms_end<const ANY: bool>(s: &[i64], at: usize, count: usize) -> usize
     requires { TermsAt (walked ANY) s.now at count }
     ensures { TermsEnd (walked ANY) s.now at count result }

@@ -9,12 +9,10 @@ pub fn in_order(s: &[i64], from: usize, to: usize) -> bool
     requires { Filled s.now from to }
     ensures { InOrder s.now from to result }
 {
-    let mut i = from;
-    while i < to {
+    for i in (from..to).step_by(2) {
         if s[i] == DICTIONARY && !rises(s, i + 2, s[i + 1] as usize) {
             return false;
         }
-        i += 2;
     }
     true
 }

@@ -42,3 +42,14 @@ loop-i-preserved c =
 
 pub returns : goal.returns
 returns c = ordering_end c.loop-i.invariant c.loop-i-test.false
+
+-- the last node
+pub returns-else-s-i-eq-DICTIONARY : goal.returns-else-s-i-eq-DICTIONARY
+returns-else-s-i-eq-DICTIONARY c =
+    elim c.else-s-i-eq-DICTIONARY.branch [
+      | else-s-i-eq-DICTIONARY-via-then-s-i-eq-DICTIONARY+else-not-rises w ↦
+          let t : get_or c.args.s.now c.loop-i.i (pos 0) ≡ pos dictionary_tag = grind (arith, ints) in
+          let d : FitsSigned w64 (get_or c.args.s.now (c.loop-i.i + 1) (pos 0)) = search rules in
+          ordering_end (ordering_next c.loop-i.invariant c.loop-i-test.true t (rw (to_z-of_z w64 _ d, w.if-not-rises.false) at w.rises.ensures)) (omega arith)
+      | else-s-i-eq-DICTIONARY-via-else-s-i-eq-DICTIONARY w ↦ ordering_end (ordering_other c.loop-i.invariant c.loop-i-test.true (λ e. grind (arith, ints))) (omega arith)
+    ]
