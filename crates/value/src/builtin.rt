@@ -116,6 +116,7 @@ impl TryFrom<usize> for Function {
 
 impl Function {
     // The value at arguments with these roots; an argument of another kind gives error.
+    #[tactic(auto, unfolding(crate::specs::Builtin::applied))]
     fn at(self, a: Root, b: Root, c: Root) -> Root
         ensures { result ≡ root_of (applied (code_of self) (label_of a) (label_of b) (label_of c)) }
     {

@@ -8,7 +8,7 @@ use term::{CALL, LOOKUP};
 impl<'a> Scope<'a> {
     // The value of a call, from its arguments, three at most, one behind the other: of a lookup from their values, of any other from their roots.
     #[cycle(arguments_expression)]
-    pub fn expression(&self, at: usize) -> Evaluated
+    pub(crate) fn expression(&self, at: usize) -> Evaluated
         requires { CallHere self.now at }
         ensures { EvaluateIs self.now at result }
     {

@@ -9,7 +9,7 @@ use term::{Span, VARIABLE};
 
 impl<'a> Scope<'a> {
     // The value of a variable or a literal.
-    pub fn leaf(&self, at: usize) -> Evaluated
+    pub(crate) fn leaf(&self, at: usize) -> Evaluated
         requires { LeafHere self.now at }
         ensures { EvaluateIs self.now at result }
     {
@@ -27,7 +27,7 @@ impl<'a> Scope<'a> {
     }
 
     // The root of a value.
-    pub fn root(&self, v: Value) -> Root
+    pub(crate) fn root(&self, v: Value) -> Root
         requires { IsValueHere self.now v }
         ensures { IsRootOf self.now v result }
     {

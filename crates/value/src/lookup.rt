@@ -9,7 +9,7 @@ use term::{DICTIONARY, Span, WHOLE};
 
 impl<'a> Scope<'a> {
     // The value of a lookup of a key in a dictionary, by their values; error if it has no such key, or if they are of another kind. A computed dictionary is empty.
-    pub fn lookup(&self, d: Value, k: Value) -> Value
+    pub(crate) fn lookup(&self, d: Value, k: Value) -> Value
         requires { IsValueHere self.now d × IsValueHere self.now k }
         ensures { LookupIs self.now d k result }
     {

@@ -22,7 +22,7 @@ impl Value {
 
 impl<'a> Scope<'a> {
     // Whether two values have the same words: no copy of a part is made.
-    pub fn same(&self, a: Value, b: Value) -> bool
+    pub(crate) fn same(&self, a: Value, b: Value) -> bool
         requires { IsWithin self.now a × IsWithin self.now b }
         ensures { Decides result (words_of self.now a ≡ words_of self.now b) }
     {
@@ -44,7 +44,7 @@ impl<'a> Scope<'a> {
     }
 
     // Whether a value is the one node that stands at a place of the table: their roots are compared.
-    pub fn is_node(&self, v: Value, at: usize) -> bool
+    pub(crate) fn is_node(&self, v: Value, at: usize) -> bool
         requires { IsValueHere self.now v × IsNodeHere self.now at }
         ensures { Decides result (words_of self.now v ≡ words_of self.now (Value.Table (record { from = at; to = at + 2 }))) }
     {

@@ -10,7 +10,7 @@ use crate::builtin::{Root, apply};
 use crate::leaf::root_at;
 use term::{CALL, LOOKUP, VARIABLE};
 
-// Whether the call that stands at a place is such a call.
+// Whether the call that stands at a place is such a call. A no is no promise: the value is then had by recursion, which any call's can be.
 pub fn is_short_call(table: &[i64], at: usize) -> bool
     requires { CallThere table.now at }
     ensures { result ≡ true → Short table.now at }

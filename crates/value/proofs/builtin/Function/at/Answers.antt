@@ -14,14 +14,6 @@ use Rattle.value.proofs.SignedLaw.{eq_bits}
 use Rattle.value.proofs.BuiltinLaw.{truths, wholes, two_value, tag_seen, is_there}
 use Rattle.value.proofs.builtin.Function.at.Goals as goal
 
-pub returns-in-BoolTrue : goal.returns-in-BoolTrue
-unfolding applied
-returns-in-BoolTrue c = rw c.in-BoolTrue.is c.truth.ensures
-
-pub returns-in-BoolFalse : goal.returns-in-BoolFalse
-unfolding applied
-returns-in-BoolFalse c = rw c.in-BoolFalse.is c.truth-in-BoolFalse.ensures
-
 pub returns-in-BoolNeg : goal.returns-in-BoolNeg
 unfolding applied
 returns-in-BoolNeg c = rw c.in-BoolNeg.is c.neg.ensures
@@ -50,14 +42,6 @@ returns-in-ZIs c =
     let f : SFits w64 c.args.a.tag = search rules in
     rw c.in-ZIs.is (c.truth-in-ZIs.ensures ∙ ap (λ (b : Bool). root_of (truth b)) (tag_seen c.args.a.tag 2 f (lit< tt) ∙ is_there wholes c.args.a))
 
-pub returns-in-ZPlus : goal.returns-in-ZPlus
-unfolding applied
-returns-in-ZPlus c = rw c.in-ZPlus.is c.plus.ensures
-
-pub returns-in-ZMinus : goal.returns-in-ZMinus
-unfolding applied
-returns-in-ZMinus c = rw c.in-ZMinus.is c.minus.ensures
-
 pub returns-in-ZEq : goal.returns-in-ZEq
 unfolding applied
 returns-in-ZEq c =
@@ -78,15 +62,3 @@ returns-in-ZLt c =
     let f : SFits w64 c.args.a.datum = search rules in
     let g : SFits w64 c.args.b.datum = search rules in
     rw c.in-ZLt.is ((rw (to_z-of_z f, to_z-of_z g) at c.truth_of_two-in-ZLt.ensures) ∙ two_value wholes c.args.a c.args.b (λ x y. truth_term (lt_z x y)) _ refl)
-
-pub returns-in-TermSameSymbol : goal.returns-in-TermSameSymbol
-unfolding applied
-returns-in-TermSameSymbol c = rw c.in-TermSameSymbol.is c.same_symbol.ensures
-
-pub returns-in-ZShare : goal.returns-in-ZShare
-unfolding applied
-returns-in-ZShare c = rw c.in-ZShare.is c.share.ensures
-
-pub returns-in-MapEmpty : goal.returns-in-MapEmpty
-unfolding applied
-returns-in-MapEmpty c = rw c.in-MapEmpty.is c.empty.ensures
