@@ -7,7 +7,7 @@ use crate::text::{front, key, parts};
 use minuska::Refusal;
 use std::io;
 
-// The words and actions that are kept, at the starts of the arrays, and how many.
+// The words and actions that are kept, at the starts of the arrays, and how many: there is no heap for vectors.
 #[derive(Drop)]
 struct Kept {
     table: [i64; 65600],

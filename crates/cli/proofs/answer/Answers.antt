@@ -7,4 +7,4 @@ pub returns-then-output-lt-MAX_OUTPUT : goal.returns-then-output-lt-MAX_OUTPUT
 returns-then-output-lt-MAX_OUTPUT c = too_short c.args.input.now c.args.output.now c.if-output-lt-MAX_OUTPUT.true
 
 pub returns : goal.returns
-returns c = written c.args.input.now c.args.output.now _ c.new-text.result c.put_answer.new.text c.new-text.ensures.bytes c.new-text.ensures.empty c.if-output-lt-MAX_OUTPUT.false c.put_answer.ensures.puts (search rules)
+returns c = written c.args.input.now c.args.output.now _ c.new-text.result c.put_answer.new.text c.new-text.ensures.bytes c.new-text.ensures.empty c.if-output-lt-MAX_OUTPUT.false c.put_answer.ensures (search rules)
