@@ -14,11 +14,15 @@ const MOST_SLOTS: usize = 256;
 // A number by some of the words, at most 32: every word of a short configuration. The step is odd, so that labels and data are met.
 fn mixed(words: &[i64]) -> u32 {
     let step = words.len() / 32 * 2 + 1;
-    let start = (words.len() % 4294967296) as u32;
-    words.iter().step_by(step).fold(start, |mix, word| {
-        let low = usize::try_from(*word).unwrap_or(0) % 4294967296;
-        mix.wrapping_add(low as u32).wrapping_mul(668265263)
-    })
+    let mut mix = (words.len() % 4294967296) as u32;
+    // `step_by` would walk over each word between.
+    for part in words.chunks(step) {
+        if let [word, ..] = part {
+            let low = usize::try_from(*word).unwrap_or(0) % 4294967296;
+            mix = mix.wrapping_add(low as u32).wrapping_mul(668265263);
+        }
+    }
+    mix
 }
 
 // The place of the slot for a mix, where the table takes the frame's own configuration and one of `words` words.

@@ -1,4 +1,4 @@
-// Words of a slice: numbers kept in them, copies, zeros, comparisons. A loop over words that more than one crate needs stands here, once.
+// Words of a slice: numbers kept in them, copies, zeros, comparisons. What more than one crate does to words stands here, once.
 #![tactic(auto)]
 
 ghost use Rattle.std.specs.Prelude.{◌≡◌, ◌+◌, ◌^◌, ◌≤◌, ◌<◌, pos, length, get_or, take, drop, set, replicate};
@@ -29,7 +29,7 @@ pub fn copy(to: &mut [i64], at: usize, from: &[i64])
     to[at..at + from.len()].copy_from_slice(from);
 }
 
-// Copies `count` words within a slice, from `from` on to `to` on, behind them. Two parts of one lent slice cannot be had at once, so `copy` does not serve.
+// Copies `count` words within a slice, from `from` on to `to` on, behind them.
 pub fn copy_up(words: &mut [i64], from: usize, to: usize, count: usize)
     requires { (from + count ≤ to) × (to + count ≤ length words.old) }
     ensures { words.new ≡ paste words.old to (take count (drop from words.old)) count }
@@ -52,10 +52,11 @@ pub fn same(a: &[i64], b: &[i64]) -> bool
     a == b
 }
 
-// The same, sooner for slices that differ in their last two words.
+// The same, sooner for slices that differ in their last word.
+#[inline]
 #[tactic(auto, using(crate::proofs::DecideLaw::same_decides))]
 pub fn same_by_ends(a: &[i64], b: &[i64]) -> bool
     ensures { Decides result (a.now ≡ b.now) }
 {
-    a.len() == b.len() && a.ends_with(&b[b.len().saturating_sub(2)..]) && a == b
+    a.len() == b.len() && a.last() == b.last() && a == b
 }
