@@ -1,14 +1,11 @@
 -- "A call's function code is one of these eighteen": `minuska`'s table, on the roots of the arguments.
-use Rattle.std.specs.Prelude.{◌≡◌, cond, ℕ, zero, suc, ◌-◌, ◌^◌, ◌≤◌, eqb, leb, ℤ, pos, negsuc, Result, MatchResult}
+use Rattle.std.specs.Prelude.{◌≡◌, cond, ℕ, zero, suc, ◌-◌, ◌^◌, ◌≤◌, eqb, leb, ℤ, pos, negsuc}
 use Rattle.minuska.specs.Term.{Label, error, truth, whole, symbol, dictionary, Forest, nil, node}
 use Rattle.minuska.specs.Word.{tag_word, datum_word}
 use Rattle.minuska.specs.Function.{interpret}
 use Rattle.minuska.specs.Rule.{updating}
 use Rattle.minuska.specs.Bridge.Walk.{looking}
 use Rattle.value.specs.declared.builtin.Root.{Root}
-use Rattle.value.specs.declared.builtin.Function.{Function}
-use Rattle.value.specs.declared.builtin.Function.TheVariants.{BoolTrue, BoolFalse, BoolNeg, BoolAnd, BoolOr, BoolEq, BoolIs, ZIs, ZPlus, ZMinus, ZEq, ZLe, ZLt, TermSameSymbol, ZShare, MapEmpty}
-use Rattle.value.specs.declared.builtin.OtherCode.{OtherCode}
 
 -- a word of 64 bits, read without its sign
 abbrev pub unsigned : ℤ → ℕ
@@ -42,26 +39,3 @@ applied code a b c = (interpret code (leaves a b c)).label
 -- A lookup's value and an update's are not given by the roots of the arguments; every other function's is.
 abbrev pub ByRoots : ℕ → Type 0
 ByRoots code = (code ≡ looking → ⊥) × (code ≡ updating → ⊥)
-
--- their codes
-abbrev pub code_of : Function → ℕ
-code_of BoolTrue = 0
-code_of BoolFalse = 1
-code_of BoolNeg = 2
-code_of BoolAnd = 3
-code_of BoolOr = 4
-code_of BoolEq = 5
-code_of BoolIs = 6
-code_of ZIs = 7
-code_of ZPlus = 8
-code_of ZMinus = 9
-code_of ZEq = 10
-code_of ZLe = 11
-code_of ZLt = 12
-code_of TermSameSymbol = 13
-code_of ZShare = 14
-code_of MapEmpty = 15
-
--- the function of a code, if it is one of these
-abbrev pub Decodes : ℕ → Result Function OtherCode → Type 0
-Decodes code r = MatchResult r (λ f. code_of f ≡ code) (λ e. 16 ≤ code)

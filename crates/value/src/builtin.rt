@@ -1,9 +1,9 @@
 // The built-in functions, on the roots of their arguments.
-ghost use Rattle.std.specs.Prelude.{◌≡◌, ◌&&◌, cond};
+ghost use Rattle.std.specs.Prelude.{◌≡◌, ◌&&◌, ◌≤◌, cond};
 ghost use Rattle.minuska.specs.Basics.{same_whole};
 ghost use Rattle.minuska.specs.Term.{Label, error, truth, whole, dictionary};
 ghost use Rattle.minuska.specs.Function.{wrong_kind, truth_term, share_range, share_of};
-ghost use Rattle.value.specs.Builtin.{label_of, root_of, applied, ByRoots, code_of, Decodes};
+ghost use Rattle.value.specs.Builtin.{label_of, root_of, applied, ByRoots};
 
 use crate::rounding::nearest;
 use term::{DICTIONARY, ERROR, SYMBOL, TRUTH, WHOLE};
@@ -61,95 +61,53 @@ impl Root {
     }
 }
 
-// The functions whose value the roots of their arguments give, in the order of their codes. A lookup's and an update's value is not: see `lookup.rt`, `update.rt`.
-#[derive(Clone, Copy, PartialEq, Eq)]
-pub enum Function {
-    BoolTrue,
-    BoolFalse,
-    BoolNeg,
-    BoolAnd,
-    BoolOr,
-    BoolEq,
-    BoolIs,
-    ZIs,
-    ZPlus,
-    ZMinus,
-    ZEq,
-    ZLe,
-    ZLt,
-    TermSameSymbol,
-    ZShare,
-    MapEmpty,
-}
-
-// A code that names no such function.
-#[derive(Clone, Copy, PartialEq, Eq)]
-pub struct OtherCode;
-
-impl TryFrom<usize> for Function {
-    type Error = OtherCode;
-
-    ghost try_from_gives = { Decodes };
-
-    fn try_from(code: usize) -> Result<Function, OtherCode> {
-        match code {
-            0 => Ok(Function::BoolTrue),
-            1 => Ok(Function::BoolFalse),
-            2 => Ok(Function::BoolNeg),
-            3 => Ok(Function::BoolAnd),
-            4 => Ok(Function::BoolOr),
-            5 => Ok(Function::BoolEq),
-            6 => Ok(Function::BoolIs),
-            7 => Ok(Function::ZIs),
-            8 => Ok(Function::ZPlus),
-            9 => Ok(Function::ZMinus),
-            10 => Ok(Function::ZEq),
-            11 => Ok(Function::ZLe),
-            12 => Ok(Function::ZLt),
-            13 => Ok(Function::TermSameSymbol),
-            14 => Ok(Function::ZShare),
-            15 => Ok(Function::MapEmpty),
-            16.. => Err(OtherCode),
-        }
-    }
-}
-
-impl Function {
-    // The value at arguments with these roots; an argument of another kind gives error.
-    #[tactic(auto, unfolding(crate::specs::Builtin::applied))]
-    fn at(self, a: Root, b: Root, c: Root) -> Root
-        ensures { result ≡ root_of (applied (code_of self) (label_of a) (label_of b) (label_of c)) }
-    {
-        match self {
-            Function::BoolTrue => Root::truth(true),
-            Function::BoolFalse => Root::truth(false),
-            Function::BoolNeg => neg(a),
-            Function::BoolAnd => truth_of_two(TRUTH, a, b, (a.datum == 1) & (b.datum == 1)),
-            Function::BoolOr => truth_of_two(TRUTH, a, b, (a.datum == 1) | (b.datum == 1)),
-            Function::BoolEq => truth_of_two(TRUTH, a, b, (a.datum == 1) == (b.datum == 1)),
-            Function::BoolIs => Root::truth(a.tag == TRUTH),
-            Function::ZIs => Root::truth(a.tag == WHOLE),
-            Function::ZPlus => plus(a, b),
-            Function::ZMinus => minus(a, b),
-            Function::ZEq => truth_of_two(WHOLE, a, b, a.datum == b.datum),
-            Function::ZLe => truth_of_two(WHOLE, a, b, a.datum <= b.datum),
-            Function::ZLt => truth_of_two(WHOLE, a, b, a.datum < b.datum),
-            Function::TermSameSymbol => same_symbol(a, b),
-            Function::ZShare => share(a, b, c),
-            Function::MapEmpty => Root::empty(),
-        }
-    }
-}
-
-// The value of the function of a code; a code that names none gives error.
+// The value of the function of a code; a code that names none, and an argument of another kind, give error. A lookup's value and an update's are not given by the
+// roots of their arguments: see `lookup.rt`, `update.rt`. One match on the code, with its groups as ranges, is the form that the project's scope names: no enum of functions.
 pub fn apply(code: usize, a: Root, b: Root, c: Root) -> Root
     requires { ByRoots code }
     ensures { result ≡ root_of (applied code (label_of a) (label_of b) (label_of c)) }
 {
-    match Function::try_from(code) {
-        Ok(function) => function.at(a, b, c),
-        Err(_) => Root::error(),
+    match code {
+        0 => Root::truth(true), // bool.true
+        1 => Root::truth(false), // bool.false
+        2 => neg(a),
+        3 => truth_of_two(TRUTH, a, b, (a.datum == 1) & (b.datum == 1)), // bool.and
+        4 => truth_of_two(TRUTH, a, b, (a.datum == 1) | (b.datum == 1)), // bool.or
+        5 => truth_of_two(TRUTH, a, b, (a.datum == 1) == (b.datum == 1)), // bool.eq
+        6 => Root::truth(a.tag == TRUTH), // bool.is
+        7 => Root::truth(a.tag == WHOLE), // z.is
+        8..=9 => arithmetic(code, a, b),
+        10..=12 => comparison(code, a, b),
+        13 => same_symbol(a, b),
+        14 => share(a, b, c),
+        15 => Root::empty(), // map.empty
+        _ => Root::error(),
     }
+}
+
+// z.plus, z.minus.
+fn arithmetic(code: usize, a: Root, b: Root) -> Root
+    requires { (8 ≤ code) × (code ≤ 9) }
+    ensures { (l : Label) → result ≡ root_of (applied code (label_of a) (label_of b) l) }
+{
+    if code == 8 {
+        return plus(a, b);
+    }
+    minus(a, b)
+}
+
+// z.eq, z.le, z.lt.
+fn comparison(code: usize, a: Root, b: Root) -> Root
+    requires { (10 ≤ code) × (code ≤ 12) }
+    ensures { (l : Label) → result ≡ root_of (applied code (label_of a) (label_of b) l) }
+{
+    if code == 10 {
+        return truth_of_two(WHOLE, a, b, a.datum == b.datum);
+    }
+    if code == 11 {
+        return truth_of_two(WHOLE, a, b, a.datum <= b.datum);
+    }
+    truth_of_two(WHOLE, a, b, a.datum < b.datum)
 }
 
 // bool.neg.
@@ -189,10 +147,10 @@ pub fn plus(a: Root, b: Root) -> Root
     if !both(WHOLE, a, b) {
         return Root::error();
     }
-    match a.datum.checked_add(b.datum) {
-        Some(sum) => Root::whole(sum),
-        None => Root::error(),
-    }
+    let Some(sum) = a.datum.checked_add(b.datum) else {
+        return Root::error();
+    };
+    Root::whole(sum)
 }
 
 // z.minus, in the same way.
@@ -202,10 +160,10 @@ pub fn minus(a: Root, b: Root) -> Root
     if !both(WHOLE, a, b) {
         return Root::error();
     }
-    match a.datum.checked_sub(b.datum) {
-        Some(difference) => Root::whole(difference),
-        None => Root::error(),
-    }
+    let Some(difference) = a.datum.checked_sub(b.datum) else {
+        return Root::error();
+    };
+    Root::whole(difference)
 }
 
 // term.same_symbol.

@@ -93,7 +93,7 @@ impl<'a> Scope<'a> {
 
 // A dictionary's root, the words in front of an entry, and the entry's key; the place behind them.
 fn put_front(out: &mut [i64], at: usize, words: &[i64], count: usize, key: i64) -> usize
-    requires { (count ≤ 64) × (at + 4 + length words.now ≤ length out.old) }
+    requires { (count ≤ 65) × (at + 4 + length words.now ≤ length out.old) }
     ensures { PutContract out.old at ((pos 5 ∷ pos count ∷ words.now) ++ (pos 2 ∷ key ∷ [])) out.new result }
 {
     let head = Root {

@@ -18,9 +18,9 @@ pub returns-then-not-both : goal.returns-then-not-both
 unfolding applied
 returns-then-not-both c = c.error.ensures ∙ two_value wholes c.args.a c.args.b meant false (sym c.if-not-both.true ∙ c.both.ensures)
 
-pub returns-in-Some : goal.returns-in-Some
+pub returns : goal.returns
 unfolding applied
-returns-in-Some c =
+returns c =
     let f : SFits w64 c.args.a.datum = search rules in
     let g : SFits w64 c.args.b.datum = search rules in
     let s : SFits w64 c.in-Some.sum = search rules in
@@ -29,11 +29,11 @@ returns-in-Some c =
     (ap (λ (z : ℤ). root_of (whole z)) (to_z-of_z s ∙ h.1) ∙
     (ap (λ (t : Term). root_of t.label) (word_in _ h.0) ∙ two_value wholes c.args.a c.args.b meant true (sym c.if-not-both.false ∙ c.both.ensures)))
 
-pub returns-in-None : goal.returns-in-None
+pub returns-in_default : goal.returns-in_default
 unfolding applied
-returns-in-None c =
+returns-in_default c =
     let f : SFits w64 c.args.a.datum = search rules in
     let g : SFits w64 c.args.b.datum = search rules in
-    let h = rw (to_z-of_z f, to_z-of_z g) at c.in-None.ensures in
-    c.error-in-None.ensures ∙
+    let h = rw (to_z-of_z f, to_z-of_z g) at c.in_default.ensures in
+    c.error-in_default.ensures ∙
     (ap (λ (t : Term). root_of t.label) (word_out _ h) ∙ two_value wholes c.args.a c.args.b meant true (sym c.if-not-both.false ∙ c.both.ensures))
