@@ -66,10 +66,11 @@ pub fn has(frame: &[i64], configuration: &[i64]) -> bool
     requires { (2 ≤ length frame.now) × (0 < length configuration.now) }
     ensures { result ≡ true → Entry frame.now configuration.now }
 {
-    match slot_at(frame, mixed(configuration), configuration.len()) {
-        Some(place) => stands(frame, place, configuration),
-        None => false,
-    }
+    slot_at(frame, mixed(configuration), configuration.len()).is_some_and(|place| stands(
+        frame,
+        place,
+        configuration,
+    ))
 }
 
 // The heads of `count` slots become 0.

@@ -17,7 +17,7 @@ use Rattle.minuska.specs.Claim.{work_words}
 use Rattle.minuska.specs.Slice.{out_limit, replay_answer, replay_out, replay_choices, replay_work, write_zeros}
 use Rattle.minuska.specs.Contract.{ReplayContract}
 use Rattle.minuska.specs.Computed.Replay.{replay}
-use Rattle.minuska.specs.Computed.Outcome.{replay_short, replay_outcome}
+use Rattle.minuska.specs.Computed.Outcome.{table_check, configuration_check, or_second, replay_short, replay_outcome}
 use Rattle.std.specs.Prelude.{Option, Result, Ok, Err}
 use Rattle.minuska.specs.declared.Refusal.{Refusal}
 use Rattle.minuska.proofs.ContractLaw.{replay_contract}
@@ -25,7 +25,7 @@ use Rattle.minuska.proofs.ShutLaw.{replay_outcome_is, replay_out_refused, replay
 use Rattle.minuska.proofs.Bridge.PositionLaw.{few_rules, order_length}
 use Rattle.minuska.specs.Bridge.Place.{RuleCountIs}
 use Rattle.minuska.proofs.Bridge.AcceptedLaw.{configuration_length, refused_first}
-use Rattle.step.specs.Accept.{AcceptContract}
+use Rattle.minuska.specs.Bridge.Place.{Accepted}
 use Rattle.sizes.specs.Sizes.{size_check, SizesHold}
 use Rattle.sizes.proofs.SizesLaw.{neither, sized, sizes_refuse, sizes_pass}
 use Rattle.memory.specs.Layout.{base}
@@ -35,7 +35,7 @@ use Rattle.memory.specs.Layout.{max_room}
 use Rattle.minuska.specs.Computed.Step.{order}
 use Rattle.replay.specs.Turns.{SlicesFit}
 use Rattle.replay.specs.Endings.{AcceptedContract}
-use Rattle.replay.proofs.ReadingLaw.{is_table_lem, is_term}
+use Rattle.replay.proofs.ReadingLaw.{is_term}
 
 -- the public answer of an outcome
 uncounted_is : (o : Outcome (ReplayResult Term)) → uncounted (counted_answer o) ≡ replay_answer o
@@ -76,17 +76,14 @@ module _ (ws cs : List ℤ) (log : List ℕ) (limit : ℕ) (out : List ℤ) (cho
       (sym (ap (λ (o : Outcome (ReplayResult Term)). replay_work limit log o work) h ∙ replay_work_refused work limit log e))
 
   -- ---- 1 and 2
-  pub not_accepted : (index index' : List ℕ) (r : Result (Unit {0}) Refusal) (e : Refusal) → AcceptContract ws cs index index' r → r ≡ Err e → CountedContract ws cs log limit out choices work out choices work (Err e)
-  not_accepted index index' r e a h =
-      refusal e (replay_outcome_is ws cs log limit (length out) (length choices) (length work) ∙ refused_first ws cs _ e (sym a.answer ∙ h))
+  pub not_accepted : (r : Result (Unit {0}) Refusal) (e : Refusal) → r ≡ or_second (table_check ws) (configuration_check cs) → r ≡ Err e → CountedContract ws cs log limit out choices work out choices work (Err e)
+  not_accepted r e a h =
+      refusal e (replay_outcome_is ws cs log limit (length out) (length choices) (length work) ∙ refused_first ws cs _ e (sym a ∙ h))
 
   -- ---- the words are accepted
-  module _ (index₀ index : List ℕ) (r : Result (Unit {0}) Refusal) (a : AcceptContract ws cs index₀ index r) (h : r ≡ Ok tt) where
-    table : IsTable ws (table_of ws)
-    table = is_table_lem ws (a.indexed h).table (a.indexed h).is
-
+  module _ (table : IsTable ws (table_of ws)) (acc : Accepted cs) where
     config : IsConfiguration cs (term_of cs)
-    config = is_term cs (a.accepted h)
+    config = is_term cs acc
 
     -- the rules that a step tries
     pub counted_rules : (rules : ℕ) → RuleCountIs ws rules → (rules ≡ length (order (table_of ws))) × (rules ≤ 256)

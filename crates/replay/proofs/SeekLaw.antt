@@ -10,22 +10,17 @@ use lib.ListN.{length, get_or}
 use Rattle.minuska.specs.Term.{Term}
 use Rattle.minuska.specs.Rule.{Table, IsTable}
 use Rattle.minuska.specs.Computed.Step.{next, order}
-use Rattle.minuska.specs.Bridge.Place.{Indexed}
 use Rattle.minuska.proofs.Bridge.PositionLaw.{element_at, element_there, few_rules, order_names, next_other}
 use Rattle.minuska.specs.Bridge.Place.{ActionIs, OrderedIs}
 use Rattle.replay.specs.Reading.{table_of}
 use Rattle.replay.specs.Turns.{Carries, Skipped, Sought}
-use Rattle.replay.proofs.ReadingLaw.{is_table_lem}
 
-module _ (ws : List ℤ) (index : List ℕ) (indexed : Indexed ws index) where
+module _ (ws : List ℤ) (good : IsTable ws (table_of ws)) where
   abbrev t : Table
   t = table_of ws
 
   abbrev rule : ℕ → ℕ
   rule q = get_or (order t) q 0
-
-  good : IsTable ws t
-  good = is_table_lem ws indexed.table indexed.is
 
   pub ordered_is : (q r : ℕ) → q < length (order t) → OrderedIs ws q r → r ≡ rule q
   ordered_is q r h o = o.is t good (rule q) (element_at (order t) 0 q h)

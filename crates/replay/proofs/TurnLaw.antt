@@ -29,27 +29,26 @@ use Rattle.memory.specs.Layout.{max_room, base, frame_at, with_frame, words_of, 
 use Rattle.memory.specs.Memory.{Keeps, Known}
 use Rattle.replay.specs.Stack.{mark, chosen, rest}
 use Rattle.replay.specs.Turns.{term_at, position_at, Framed, Begun, SoundFrames, Held, state_of, left_of, SlicesFit, Kept, Skipped, Sought, TryContract, MadeWithin, Entered, Settles, Same, TurnSays, TurnContract}
-use Rattle.replay.proofs.ReadingLaw.{term_of_lem, is_table_lem, is_term}
+use Rattle.replay.proofs.ReadingLaw.{term_of_lem, is_term, checked_is}
 use Rattle.replay.proofs.StackLaw as Stack
 use Rattle.replay.proofs.RecallLaw as Recall
 use Rattle.memory.proofs.LayoutLaw.{frame_before, with_long, with_behind, lent_frame, lent_back}
 use Rattle.replay.proofs.FrameLaw.{on_long, on_terms, on_top, on_positions, on_position, on_held, on_sound, in_long, in_terms, in_positions, in_top, in_position, in_held, in_sound, back_held}
 use Rattle.minuska.proofs.Bridge.AcceptedLaw.{term_length}
-use Rattle.minuska.specs.Bridge.Place.{Indexed}
 use Rattle.replay.proofs.ToldLaw.{limit_words, Answer, Tells, tried_tells}
 
 -- what a search has, by the facts of `Search` and of the slices
-pub record Searches (ws : List ℤ) (index : List ℕ) (rules room : ℕ) (log : List ℕ) (out work : List ℤ) : Type 0 where
-  pub indexed : Indexed ws index
+pub record Searches (ws : List ℤ) (rules room : ℕ) (log : List ℕ) (out work : List ℤ) : Type 0 where
+  pub good : IsTable ws (table_of ws)
   pub rules_are : rules ≡ length (order (table_of ws))
   pub few : rules ≤ 256
   pub narrow : room ≤ max_room
   pub slices : SlicesFit room log out work
 
-pub searches : (s : Search) (out work : List ℤ) → SlicesFit s.room s.log.now out work → Searches s.table.words.now s.table.index.now s.rules s.room s.log.now out work
-searches s out work f = record { indexed = s.table.indexed; rules_are = s.rules_are; few = s.few; narrow = s.narrow; slices = f }
+pub searches : (s : Search) (out work : List ℤ) → SlicesFit s.room s.log.now out work → Searches s.table.words.now s.rules s.room s.log.now out work
+searches s out work f = record { good = checked_is s.table; rules_are = s.rules_are; few = s.few; narrow = s.narrow; slices = f }
 
-module _ (ws : List ℤ) (index : List ℕ) (rules room : ℕ) (log : List ℕ) (out work : List ℤ) (d : ℕ) (rm : Searches ws index rules room log out work) (deep : d < length log) (s : SoundFrames rules room (length log) work d) where
+module _ (ws : List ℤ) (rules room : ℕ) (log : List ℕ) (out work : List ℤ) (d : ℕ) (rm : Searches ws rules room log out work) (deep : d < length log) (s : SoundFrames rules room (length log) work d) where
   abbrev t : Table
   t = table_of ws
 
@@ -63,7 +62,7 @@ module _ (ws : List ℤ) (index : List ℕ) (rules room : ℕ) (log : List ℕ) 
   action = get_or log d 0
 
   good : IsTable ws t
-  good = is_table_lem ws rm.indexed.table rm.indexed.is
+  good = rm.good
 
   pub frame_fits : base room d + (room + 2) ≤ length work
   frame_fits = omega (arith, frame_before room d (length log) deep, rm.slices.work_fits)
@@ -357,17 +356,17 @@ module _ (s : Search) (out work : List ℤ) (d q : ℕ) (f : SlicesFit s.room s.
     after = lent_back s.room work d start end from to frame' ∙ ap (with_frame s.room work d) (e ∙ ap (λ (l : List ℤ). advanced l (q + 1)) (lent_frame s.room work d start end from to))
 
     pub lent_spare : (i : ℕ) → i < length s.log.now → OwnFits (frame_at s.room (take start work ++ (frame' ++ drop (end - start) (drop start work))) i)
-    lent_spare i h = subst⁻¹ (λ (w : List ℤ). OwnFits (frame_at s.room w i)) after (spare_within _ _ _ _ _ out work d (searches s out work f) deep sound q k i h)
+    lent_spare i h = subst⁻¹ (λ (w : List ℤ). OwnFits (frame_at s.room w i)) after (spare_within _ _ _ _ out work d (searches s out work f) deep sound q k i h)
 
     module _ (out' : List ℤ) (r : Answer) (tr : TryContract s.table.words.now (words_of (take (end - start) (drop start work))) (get_or (order t₁) q 0) s.room out out' r) where
       tried_here : TryContract s.table.words.now (words_of (frame_at s.room work d)) (get_or (order t₁) q 0) s.room out out' r
       tried_here = subst (λ (l : List ℤ). TryContract s.table.words.now (words_of l) (get_or (order t₁) q 0) s.room out out' r) (lent_frame s.room work d start end from to) tr
 
       pub lent_made : MadeWithin r s.room (length out')
-      lent_made = made_within _ _ _ _ _ out work d (searches s out work f) deep sound q k out' r tried_here
+      lent_made = made_within _ _ _ _ out work d (searches s out work f) deep sound q k out' r tried_here
 
       pub lent_turned : (w : List ℤ) (x : Turned) → Settles r (length s.log.now) s.room s.remember d out' (take start work ++ (frame' ++ drop (end - start) (drop start work))) w x
           → TurnContract s.table.words.now s.rules s.room s.log.now d out work out' w x
       lent_turned w x z =
-          turned _ _ _ _ _ out work d (searches s out work f) deep sound q k out' r tried_here s.remember w x
+          turned _ _ _ _ out work d (searches s out work f) deep sound q k out' r tried_here s.remember w x
           (subst (λ (l : List ℤ). Settles r (length s.log.now) s.room s.remember d out' l w x) after z)

@@ -12,7 +12,7 @@ returns-in-None c =
     let q = c.requires in
     let p = c.place in
     let e : c.position-from.result ≡ position_at s.room a.work.now a.depth = c.position-from.ensures ∙ ap position_of (lent_frame s.room a.work.now a.depth p.result.start p.result.end p.ensures.start p.ensures.end) in
-    turn_ended _ _ _ _ _ a.out.now a.work.now a.depth (searches s a.out.now a.work.now q.fits.0) q.fits.1 q.sound (rw e at c.in-None.ensures.none) c.if-depth-eq0.true
+    turn_ended _ _ _ _ a.out.now a.work.now a.depth (searches s a.out.now a.work.now q.fits.0) q.fits.1 q.sound (rw e at c.in-None.ensures.none) c.if-depth-eq0.true
 
 pub returns-in-None-2 : goal.returns-in-None-2
 returns-in-None-2 c =
@@ -21,4 +21,4 @@ returns-in-None-2 c =
     let q = c.requires in
     let p = c.place in
     let e : c.position-from.result ≡ position_at s.room a.work.now a.depth = c.position-from.ensures ∙ ap position_of (lent_frame s.room a.work.now a.depth p.result.start p.result.end p.ensures.start p.ensures.end) in
-    turn_back _ _ _ _ _ a.out.now a.work.now a.depth (searches s a.out.now a.work.now q.fits.0) q.fits.1 q.sound (rw e at c.in-None-2.ensures.none) (a.depth - 1) (omega arith)
+    turn_back _ _ _ _ a.out.now a.work.now a.depth (searches s a.out.now a.work.now q.fits.0) q.fits.1 q.sound (rw e at c.in-None-2.ensures.none) (a.depth - 1) (omega arith)
