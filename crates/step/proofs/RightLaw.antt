@@ -284,9 +284,6 @@ module _ (ws cs : List ℤ) (starts ends : List ℕ) (at end : ℕ) (below : at 
       this_item : ItemOf ws cs starts ends at end k.rest.valuation k.rest.words s
       this_item = let i = k.rest in x.is i.valuation i.terms i.words i.is
 
-      pub item_ends : s.next ≤ length ws
-      item_ends = omega (arith, this_item.leads.rest.stands.within)
-
       pub item_room : Within ws cs s.value × (o + size_of s.value ≤ room)
       item_room =
           let g = this_item in
