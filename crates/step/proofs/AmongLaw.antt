@@ -1,4 +1,5 @@
 -- Rules tried one after the other: what each turn of `apply_among` says, and the two steps from it.
+use Rattle.minuska.specs.declared.Row.{Row}
 use Rattle.std.specs.Prelude.{None, Result, Ok, Err}
 use Rattle.minuska.specs.declared.Refusal.{Refusal}
 use Rattle.minuska.specs.declared.Stepped.{Stepped}
@@ -63,7 +64,7 @@ pub positions_all : (t : Table) (count : ℕ) → count ≡ length t → positio
 positions_all t count e = take_all (count - 0) (order t) (omega (arith, order_length t))
 
 -- every position of the order names a rule
-pub position_names : {ws : List ℤ} {index : List ℕ} {i to n : ℕ} → Indexed ws index → Positions ws to → i < to → OrderedIs ws i n → Names ws n
+pub position_names : {ws : List ℤ} {index : List Row} {i to n : ℕ} → Indexed ws index → Positions ws to → i < to → OrderedIs ws i n → Names ws n
 position_names {ws} {index} {i} {to} {n} x s below o =
     let t = x.table in
     let k = s.there t x.is in
@@ -115,7 +116,7 @@ module _ (ws cs : List ℤ) (n : ℕ) (a : Names ws n) where
           worth_of true v h x = x
           worth_of false v h x = absurd (none-ne-some h x)
 
-    pub judged_matched : {u : Unit {0}} → r ≡ Ok u → {index : List ℕ} → Indexed ws index → Accepted cs → SomeMatched ws cs n starts ends
+    pub judged_matched : {u : Unit {0}} → r ≡ Ok u → {index : List Row} → Indexed ws index → Accepted cs → SomeMatched ws cs n starts ends
     judged_matched e x y =
         let z = applying e x.table y.term x.is y.is in record { rule = a.rule; configuration = y.term; valuation = z.valuation; is = z.matched }
 
@@ -198,7 +199,7 @@ module _ (ws cs : List ℤ) (first from to : ℕ) where
           }
 
 -- ---- the step by one rule: that rule alone
-module _ (ws cs : List ℤ) (index : List ℕ) (out : List ℤ) (x : Indexed ws index) (y : Accepted cs) where
+module _ (ws cs : List ℤ) (index : List Row) (out : List ℤ) (x : Indexed ws index) (y : Accepted cs) where
   pub by_that_rule : (n : ℕ) (out' : List ℤ) (r : Result (Result Stepped Obstacle) Refusal) → AmongIs ws cs n 0 0 out out' r → StepByRuleContract ws cs n out out' (step_of r)
   by_that_rule n out' r k =
       let t = x.table in

@@ -81,9 +81,6 @@ module _ (ws cs : List ℤ) (starts ends : List ℕ) (at end : ℕ) where
   pub record Holding (i k : ℕ) : Type 0 where
     pub rest : (ρ : Valuation) (conds : List SideCondition) → StandingConditions ws cs starts ends at end ρ conds → (later : List SideCondition) × StandingConditions ws cs starts ends i end ρ later × (failing ρ conds ≡ behind k (failing ρ later))
 
-  pub holding_first : Holding at 0
-  holding_first = record { rest = λ ρ conds x. (conds, x, sym (behind_none (failing ρ conds))) }
-
   -- a place before the end: a condition stands there
   some_later : (i : ℕ) (ρ : Valuation) (later : List SideCondition) → StandingConditions ws cs starts ends i end ρ later → i < end → (c : SideCondition) × (more : List SideCondition) × (later ≡ c ∷ more)
   some_later i ρ [] x h = absurd (let e = x.up_to in let f : ⊥ = omega arith in f)

@@ -1,4 +1,5 @@
 -- A rule's left alone: what its verdict says of it, as an answer.
+use Rattle.minuska.specs.declared.Row.{Row}
 use Rattle.std.specs.Prelude.{Result, Ok, Err}
 use mathlib.Core.Path.{◌≡◌, refl, sym, ◌∙◌, ap}
 use mathlib.Core.Option.{Option, none, some}
@@ -49,7 +50,7 @@ module _ (l : Term) (conds : List SideCondition) where
   all_agree (apart j) f = absurd (f j refl)
 
 -- ---- the answers of `compare_rule`
-module _ (ws cs : List ℤ) (index : List ℕ) (n : ℕ) (x : Indexed ws index) (y : Accepted cs) where
+module _ (ws cs : List ℤ) (index : List Row) (n : ℕ) (x : Indexed ws index) (y : Accepted cs) where
   outcome_by : match_outcome ws cs n ≡ gives (match_numbered (get_elem? x.table n) y.term)
   outcome_by =
       match_outcome_is ws cs n ∙

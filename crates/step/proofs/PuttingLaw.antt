@@ -6,14 +6,14 @@ use Prim.Native.Nat.{ℕ, suc, ◌+◌, ◌*◌, ◌≤◌, ◌<◌}
 use native.Mathlib.Omega.{arith}
 use lib.IntN.{ℤ, pos}
 use lib.ListN.{length, take, drop, get_or, get_elem?, set, length-append}
-use lib.Seq.{take-length, drop-cons, set-append_seam}
+use lib.Seq.{drop-cons, set-append_seam}
 use Rattle.std.proofs.lemmas.List.{take_more, length-take-le}
 use Rattle.minuska.specs.Obstacle.{Reason, left_differs, condition_fails}
 use Rattle.minuska.specs.Slice.{write, reason_words}
 use Rattle.step.specs.declared.rule.Obstacle.{Obstacle}
 use Rattle.step.specs.declared.rule.Obstacle.TheVariants.{Left, Condition}
 use Rattle.step.specs.Verdict.{obstacle_of}
-use Rattle.step.specs.Reasons.{obstacle_words, PutAllIs}
+use Rattle.step.specs.Reasons.{obstacle_words}
 
 -- the obstacles of some reasons
 abbrev pub obstacles_of : List Reason → List Obstacle
@@ -82,6 +82,3 @@ putting_on {os} {old} {list} {n} p below room d o here w same {k} first =
           (ap (λ (ys : List ℤ). write ys old) (sym (words_more (take n os) o)) ∙
           ap (λ (ys : List Obstacle). write (obstacle_words ys) old) (ap (λ (q : Obstacle). take n os ++ q ∷ []) here ∙ sym (take_more os n d below))))));
     }
-
-pub putting_last : {os : List Obstacle} {old list : List ℤ} → Putting os old list (length os) → PutAllIs os old list
-putting_last {os} {old} p = record { is = p.is ∙ ap (λ (ys : List Obstacle). write (obstacle_words ys) old) (take-length os) }

@@ -63,7 +63,7 @@ one_node = every_value (λ c xs. Single c) OneNode (λ b. refl) refl (λ z. one_
 record VariableItem (ws cs : List ℤ) (starts ends : List ℕ) (at end : ℕ) (ρ : Valuation) (us : List ℤ) (v : ℕ) : Type 0 where
   datum : T (non_neg (word ws (at + 1)))
   low : v < variables
-  item : ItemOf ws cs starts ends at end ρ us (record { value = W.Configuration (get_or starts v 0) (get_or ends v 0); next = at + 2 })
+  item : ItemOf ws cs starts ends at end ρ us (record { value = W.Configuration (record { from = get_or starts v 0; to = get_or ends v 0 }); next = at + 2 })
 
 module _ {ws cs : List ℤ} {starts ends : List ℕ} {at end : ℕ} {ρ : Valuation} {l : Label} {ls ss : Forest} {us : List ℤ} (r : Rest ws cs starts ends at end ρ (node l ls ss) us) where
   -- ---- the first term, and the rest behind it
@@ -198,7 +198,7 @@ module _ {ws cs : List ℤ} {starts ends : List ℕ} {at end : ℕ} {ρ : Valuat
             };
       }
 
-  node_item : (tag_word l (term_count ls) ≡ pos variable_tag → ⊥) → (tag_word l (term_count ls) ≡ pos call_tag → ⊥) → ItemOf ws cs starts ends at end ρ us (record { value = W.Table at (at + 2); next = at + 2 })
+  node_item : (tag_word l (term_count ls) ≡ pos variable_tag → ⊥) → (tag_word l (term_count ls) ≡ pos call_tag → ⊥) → ItemOf ws cs starts ends at end ρ us (record { value = W.Table (record { from = at; to = at + 2 }); next = at + 2 })
   unfolding value_words Within
   node_item f g =
       let h : Stands ws at two = stands_first two (encode (appended ls ss)) two_stand in
@@ -206,7 +206,7 @@ module _ {ws cs : List ℤ} {starts ends : List ℕ} {at end : ℕ} {ρ : Valuat
       record { within = (omega arith, h.within); leads = subst (λ (vs : List ℤ). LeadsOn ws cs starts ends at end ρ us vs (at + 2)) (sym (ap (λ (m : ℕ). take m (drop at ws)) n ∙ h.words)) (node_leads f g) }
 
   -- the same two words, read
-  node_read : (tag_word l (term_count ls) ≡ pos variable_tag → ⊥) → (tag_word l (term_count ls) ≡ pos call_tag → ⊥) → (t d : ℤ) → t ≡ word ws at → d ≡ word ws (at + 1) → ItemOf ws cs starts ends at end ρ us (record { value = W.Computed t d; next = at + 2 })
+  node_read : (tag_word l (term_count ls) ≡ pos variable_tag → ⊥) → (tag_word l (term_count ls) ≡ pos call_tag → ⊥) → (t d : ℤ) → t ≡ word ws at → d ≡ word ws (at + 1) → ItemOf ws cs starts ends at end ρ us (record { value = W.Computed (record { tag = t; datum = d }); next = at + 2 })
   unfolding value_words Within
   node_read f g t d p q =
       let x : word ws at ≡ tag_word l (term_count ls) = stands_head r.stands (pos 0) in
@@ -226,10 +226,10 @@ module _ (ws : List ℤ) (starts ends : List ℕ) (at : ℕ) where
     pub variable_fits : SomePiece ws starts ends at → T (non_neg (word ws (at + 1))) × (v < variables)
     variable_fits s = first s.rest.terms s.before s.rest.is λ l ls ss r t. let x = variable_here r (sym t ∙ three) v number in (x.datum, x.low)
 
-    pub variable_is : PieceIs ws starts ends at (record { value = W.Configuration (get_or starts v 0) (get_or ends v 0); next = at + 2 })
+    pub variable_is : PieceIs ws starts ends at (record { value = W.Configuration (record { from = get_or starts v 0; to = get_or ends v 0 }); next = at + 2 })
     variable_is = record { is = λ cs end ρ f us below r. first f below r (λ l ls ss k t. (variable_here k (sym t ∙ three) v number).item) }
 
-  pub node_is : (word ws at ≡ pos variable_tag → ⊥) → (word ws at ≡ pos call_tag → ⊥) → PieceIs ws starts ends at (record { value = W.Table at (at + 2); next = at + 2 })
+  pub node_is : (word ws at ≡ pos variable_tag → ⊥) → (word ws at ≡ pos call_tag → ⊥) → PieceIs ws starts ends at (record { value = W.Table (record { from = at; to = at + 2 }); next = at + 2 })
   node_is f g = record { is = λ cs end ρ h us below r. first h below r (λ l ls ss k t. node_item k (λ e. f (t ∙ e)) (λ e. g (t ∙ e))) }
 
 -- ---- `item` at a call
@@ -266,7 +266,7 @@ module _ (ws cs : List ℤ) (starts ends : List ℕ) (at end : ℕ) (below : at 
   pub call_sized : (b : Bool) → OneNodeIs ws at b → b ≡ true → (e : ℕ) → TermEnds ws at e → SizedIs ws cs starts ends at end (record { words = 2; next = e })
   call_sized b o t e x = record { is = λ ρ f us r. o.size t cs starts ends end ρ f us below r e x }
 
-  pub node_words : (word ws at ≡ pos variable_tag → ⊥) → (word ws at ≡ pos call_tag → ⊥) → (t d : ℤ) → t ≡ word ws at → d ≡ word ws (at + 1) → ItemIs ws cs starts ends at end (record { value = W.Computed t d; next = at + 2 })
+  pub node_words : (word ws at ≡ pos variable_tag → ⊥) → (word ws at ≡ pos call_tag → ⊥) → (t d : ℤ) → t ≡ word ws at → d ≡ word ws (at + 1) → ItemIs ws cs starts ends at end (record { value = W.Computed (record { tag = t; datum = d }); next = at + 2 })
   node_words f g t d p q = record { is = λ ρ h us r. first h below r (λ l ls ss k y. node_read k (λ e. f (y ∙ e)) (λ e. g (y ∙ e)) t d p q) }
 
   module _ (s : Evaluated) (x : ItemIs ws cs starts ends at end s) where
@@ -283,9 +283,6 @@ module _ (ws cs : List ℤ) (starts ends : List ℕ) (at end : ℕ) (below : at 
     module _ (o room : ℕ) (k : FittingItem ws cs starts ends at end o room) where
       this_item : ItemOf ws cs starts ends at end k.rest.valuation k.rest.words s
       this_item = let i = k.rest in x.is i.valuation i.terms i.words i.is
-
-      pub item_ends : s.next ≤ length ws
-      item_ends = omega (arith, this_item.leads.rest.stands.within)
 
       pub item_room : Within ws cs s.value × (o + size_of s.value ≤ room)
       item_room =

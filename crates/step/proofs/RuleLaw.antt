@@ -40,9 +40,6 @@ pub greater_of_two : {a b r : ℕ} → r ≡ max a b → (a ≤ r) × (b ≤ r) 
 greater_of_two {a} {b} e = subst⁻¹ (λ (n : ℕ). (a ≤ n) × (b ≤ n) × (n ≤ a + b)) e (le-max_left a b, le-max_right a b, max-le (omega arith) (omega arith))
 
 module _ (ws : List ℤ) (n : ℕ) where
-  pub matched_names : (cs : List ℤ) (starts ends : List ℕ) → SomeMatched ws cs n starts ends → Names ws n
-  matched_names cs starts ends s = let a = s.is.at in record { table = a.table; is = a.is; rule = s.rule; numbered = a.numbered }
-
   -- ---- the left
   module _ (from to : ℕ) (x : PartIs left_words ws n from to) where
     is_left : (t : Table) (rule : Rule) → IsTable ws t → get_elem? t n ≡ some rule → IsLeft ws from to rule.left

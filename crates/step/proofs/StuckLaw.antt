@@ -1,4 +1,5 @@
 -- Why no rule applies, as an answer: the ways out of `list_reasons`.
+use Rattle.minuska.specs.declared.Row.{Row}
 use Rattle.std.specs.Prelude.{Option as StdOption, Some, None, Ok, Err, All}
 use mathlib.Core.Path.{◌≡◌, refl, sym, ◌∙◌, ap, subst⁻¹}
 use mathlib.Core.Bool.{Bool, true, false, cond}
@@ -65,7 +66,7 @@ found_none : (p : Option (ℕ × Term)) → None ≡ found_as p → p ≡ none
 found_none none e = refl
 found_none (some mh) e = cc
 
-module _ (ws cs : List ℤ) (index : List ℕ) (list : List ℤ) (x : Indexed ws index) (y : Accepted cs) (count : ℕ) (c : RuleCountIs ws count) where
+module _ (ws cs : List ℤ) (index : List Row) (list : List ℤ) (x : Indexed ws index) (y : Accepted cs) (count : ℕ) (c : RuleCountIs ws count) where
   abbrev t : Table
   t = x.table
 

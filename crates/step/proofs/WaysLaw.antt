@@ -13,7 +13,7 @@ use native.Mathlib.Omega.{arith}
 use lib.IntN.{ℤ}
 use lib.ListN.{length}
 use Rattle.minuska.specs.Term.{Term, single, node_count}
-use Rattle.minuska.specs.Satisfaction.{Valuation, SideCondition}
+use Rattle.minuska.specs.Satisfaction.{Valuation}
 use Rattle.minuska.specs.Rule.{Rule, max_nodes}
 use Rattle.minuska.specs.Slice.{out_limit}
 use Rattle.minuska.specs.declared.Refusal.TheVariants.{OverLimit}
@@ -26,7 +26,7 @@ use Rattle.minuska.specs.Computed.Compare.{Comparison, agreed, apart, comparison
 use Rattle.minuska.specs.Computed.Reasons.{failing, reason_by}
 use Rattle.minuska.proofs.CompareLaw.{compare_match}
 use Rattle.step.specs.declared.rule.Obstacle.{Obstacle}
-use Rattle.step.specs.declared.rule.Obstacle.TheVariants.{Left, Condition}
+use Rattle.step.specs.declared.rule.Obstacle.TheVariants.{Condition}
 use Rattle.step.specs.Matching.{compared_by}
 use Rattle.step.specs.Conditions.{failed_by}
 use Rattle.step.specs.Apply.{Candidate, Matched, SomeMatched, MatchIs, HoldIs, FitsIs, WordsFit, WriteIs, Instantiated}
@@ -78,14 +78,6 @@ held_as (Err k) r m = let (o, e, f) = err_from_is_err_and r m in e ∙ ap Err f
 
 module _ (ws cs : List ℤ) (n : ℕ) (starts ends : List ℕ) where
   module _ {p : Result (Unit {0}) ℕ} (m : MatchIs ws cs n starts ends p) where
-    -- the left disagrees
-    pub way_apart : {k : ℕ} → p ≡ Err k → JudgeIs ws cs n starts ends (Err (Left k))
-    way_apart {k} e = record { verdict = record { is = λ rule g a. pick rule.conditions (comparison rule.left g) (sym (m.answer rule g a) ∙ e) }; binds = m.binds }
-      where
-        pick : (conds : List SideCondition) (c : Comparison) → compared_by c ≡ Err k → Err (Left k) ≡ verdict_for (reason_by conds c)
-        pick conds (agreed ρ) q = cc
-        pick conds (apart j) q = cc
-
     -- it agrees
     module _ {u : Unit {0}} (all : p ≡ Ok u) where
       matching : (rule : Rule) (g : Term) (a : Candidate ws cs n rule g) → (ρ : Valuation) × (comparison rule.left g ≡ agreed ρ) × Matched ws cs n starts ends rule g ρ

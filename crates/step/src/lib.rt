@@ -19,7 +19,7 @@ ghost use Rattle.step.specs.Among.{KeyFor, AmongIs};
 
 use crate::rule::Obstacle;
 use minuska::limits::{MAX_CONFIGURATION_WORDS, MAX_NODES, MAX_RULES};
-use minuska::{INDEX_LEN, Index, MatchAnswer, Refusal, Stepped};
+use minuska::{Index, MatchAnswer, Refusal, Row, Stepped};
 use table::checked::Table;
 use term::configuration::Configuration;
 use term::places::Places;
@@ -43,7 +43,7 @@ pub fn checked<'a>(
 pub fn match_rule(table: &[i64], configuration: &[i64], rule: usize) -> Result<MatchAnswer, Refusal>
     ensures { MatchRuleContract table.now configuration.now rule result }
 {
-    let mut index = [0u16; INDEX_LEN];
+    let mut index = [Row::EMPTY; MAX_RULES];
     let (table, configuration) = checked(table, configuration, &mut index)?;
     Ok(compare(table, configuration, rule))
 }
@@ -56,7 +56,7 @@ pub fn reasons(
 ) -> Result<Option<usize>, Refusal>
     ensures { ReasonsContract table.now configuration.now list.old list.new result }
 {
-    let mut index = [0u16; INDEX_LEN];
+    let mut index = [Row::EMPTY; MAX_RULES];
     let (table, configuration) = checked(table, configuration, &mut index)?;
     list_reasons(table, configuration, list)
 }
@@ -70,7 +70,7 @@ pub fn step_by_rule(
 ) -> Result<Option<Stepped>, Refusal>
     ensures { StepByRuleContract table.now configuration.now rule out.old out.new result }
 {
-    let mut index = [0u16; INDEX_LEN];
+    let mut index = [Row::EMPTY; MAX_RULES];
     let (table, configuration) = checked(table, configuration, &mut index)?;
     by_rule(table, configuration, rule, out)
 }
@@ -83,7 +83,7 @@ pub fn step(
 ) -> Result<Option<Stepped>, Refusal>
     ensures { StepContract table.now configuration.now out.old out.new result }
 {
-    let mut index = [0u16; INDEX_LEN];
+    let mut index = [Row::EMPTY; MAX_RULES];
     let (table, configuration) = checked(table, configuration, &mut index)?;
     earliest(table, configuration, out)
 }
@@ -92,7 +92,8 @@ pub fn step(
 fn compare(table: Table, configuration: Configuration, rule: usize) -> MatchAnswer
     ensures { MatchRuleContract table.entry.words.now configuration.entry.words.now rule (Ok result) }
 {
-    if table.rules() <= rule {
+    let count = table.rules();
+    if count <= rule {
         return MatchAnswer::Differs(0);
     }
     let left = table.left(rule);

@@ -5,6 +5,7 @@ ghost use Rattle.step.specs.Right.{SomeRest, ItemIs, SomePiece, PieceIs, IsUpdat
 
 use term::Span;
 use term::places::Places;
+use value::builtin::Root;
 use value::{Evaluated, Scope, Value};
 
 // The codes of the functions whose value is not one node, as words: a lookup's is a part of either slice, an update's is no part of any.
@@ -21,12 +22,12 @@ fn piece(table: &[i64], at: usize, places: &Places) -> Evaluated
     if table[at] == term::VARIABLE {
         let part = places.part(table[at + 1] as usize);
         return Evaluated {
-            value: Value::Configuration(part.from, part.to),
+            value: Value::Configuration(part),
             next,
         };
     }
     Evaluated {
-        value: Value::Table(at, next),
+        value: Value::Table(Span { from: at, to: next }),
         next,
     }
 }
@@ -97,16 +98,9 @@ fn update_size(scope: &Scope, at: usize, end: usize) -> Sized
     ensures { SizedIs scope.now.table.now scope.now.configuration.now scope.now.places.now.starts scope.now.places.now.ends at end result }
 {
     let p = update_parts(scope, at, end);
-    let plan = value::update::plan_of(scope.table, scope.configuration, p.dictionary, p.key);
-    let words = value::update::plan_size(
-        scope.table,
-        scope.configuration,
-        p.dictionary,
-        plan,
-        p.term,
-    );
+    let plan = scope.plan(p.dictionary, p.key);
     Sized {
-        words,
+        words: scope.plan_size(p.dictionary, plan, p.term),
         next: p.next,
     }
 }
@@ -127,7 +121,7 @@ fn item_size(scope: &Scope, at: usize, end: usize) -> Sized
     }
     let x = item(scope, at, end);
     Sized {
-        words: value::size(x.value),
+        words: x.value.size(),
         next: x.next,
     }
 }
@@ -163,18 +157,9 @@ fn write_update(scope: &Scope, at: usize, end: usize, out: &mut [i64], o: usize)
     ensures { WriteItemIs scope.now.table.now scope.now.configuration.now scope.now.places.now.starts scope.now.places.now.ends at end out.old o out.new result }
 {
     let p = update_parts(scope, at, end);
-    let plan = value::update::plan_of(scope.table, scope.configuration, p.dictionary, p.key);
-    let place = value::update::put_plan(
-        out,
-        o,
-        scope.table,
-        scope.configuration,
-        p.dictionary,
-        plan,
-        p.term,
-    );
+    let plan = scope.plan(p.dictionary, p.key);
     Written {
-        place,
+        place: scope.put_plan(out, o, p.dictionary, plan, p.term),
         next: p.next,
     }
 }
@@ -200,12 +185,13 @@ fn write_value(scope: &Scope, at: usize, end: usize, out: &mut [i64], o: usize) 
         if value::short::is_short_call(scope.table, at) {
             let root = scope.short_call(at);
             return Written {
-                place: scope.put(out, o, value::leaf::given(root)),
+                place: scope.put(out, o, Value::Computed(root)),
                 next: at + 6,
             };
         }
     } else if tag != term::VARIABLE {
-        let node = Value::Computed(tag, scope.table[at + 1]);
+        let datum = scope.table[at + 1];
+        let node = Value::Computed(Root { tag, datum });
         return Written {
             place: scope.put(out, o, node),
             next: at + 2,

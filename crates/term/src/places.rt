@@ -1,5 +1,5 @@
 // Where the terms of a match's variables stand in the configuration.
-ghost use Rattle.std.specs.Prelude.{◌≡◌, ◌^◌, ◌<◌, ◌↔◌, get_or, set, replicate, IsNone, IfSome};
+ghost use Rattle.std.specs.Prelude.{◌≡◌, ◌^◌, ◌<◌, ◌↔◌, get_or, set, replicate, length, IsNone, IfSome};
 ghost use Rattle.minuska.specs.Word.{variables};
 
 use crate::{Span, VARIABLES};
@@ -10,6 +10,8 @@ use crate::{Span, VARIABLES};
 pub struct Places {
     pub starts: [u32; VARIABLES],
     pub ends: [u32; VARIABLES],
+    pub ghost starts_long: { length starts ≡ variables },
+    pub ghost ends_long: { length ends ≡ variables },
 }
 
 impl Places {

@@ -20,8 +20,7 @@ returns-in_default c =
 
 pub offset_bounds-obstacles-rule : goal.offset_bounds-obstacles-rule
 offset_bounds-obstacles-rule c =
-    let b = positions_of _ _ _ c.rules-count.ensures (omega arith) in
-    record { fits = omega (arith, few_places (position_names c.args.table.indexed b c.loop-position-test.true c.ordered-rule.ensures)) }
+    record { fits = omega (arith, few_places (position_names c.args.table.indexed (positions_of _ _ _ c.rules-count.ensures (omega arith)) c.loop-position-test.true c.ordered-rule.ensures)) }
 
 pub bounds-obstacles-rule : goal.bounds-obstacles-rule
 bounds-obstacles-rule c =

@@ -5,13 +5,13 @@ use Rattle.value.specs.Value.{value_words}
 use Rattle.value.specs.Update.{plan_words}
 use Rattle.step.proofs.right.update_size.Goals as goal
 
-pub plan_of-plan-requires : goal.plan_of-plan-requires
-plan_of-plan-requires c = let q = parts_values _ _ _ _ _ _ _ c.update_parts-p.ensures c.requires.0 in (q.0, q.1)
+pub plan-plan-requires : goal.plan-plan-requires
+plan-plan-requires c = let q = parts_values _ _ _ _ _ _ _ c.update_parts-p.ensures c.requires.0 in (q.0, q.1)
 
-pub plan_size-words-requires : goal.plan_size-words-requires
-plan_size-words-requires c = let q = parts_values _ _ _ _ _ _ _ c.update_parts-p.ensures c.requires.0 in (q.0, q.2, c.plan_of-plan.ensures.fits)
+pub plan_size-requires : goal.plan_size-requires
+plan_size-requires c = let q = parts_values _ _ _ _ _ _ _ c.update_parts-p.ensures c.requires.0 in (q.0, q.2, c.plan-plan.ensures.fits)
 
 pub returns : goal.returns
 returns c =
     parts_sized _ _ _ _ _ _ _ c.update_parts-p.ensures _
-    (λ a b t x y z. c.plan_of-plan.ensures.is a b t x y ∙ ap (λ (vs : List ℤ). plan_words (value_words c.args.scope.now.table.now c.args.scope.now.configuration.now c.update_parts-p.result.dictionary) c.plan_of-plan.result vs) (sym z.words)) _ c.plan_size-words.ensures
+    (λ a b t x y z. c.plan-plan.ensures.is a b t x y ∙ ap (λ (vs : List ℤ). plan_words (value_words c.args.scope.now.table.now c.args.scope.now.configuration.now c.update_parts-p.result.dictionary) c.plan-plan.result vs) (sym z.words)) _ c.plan_size.ensures

@@ -5,17 +5,17 @@ use Rattle.value.specs.Value.{value_words}
 use Rattle.value.specs.Update.{plan_words}
 use Rattle.step.proofs.right.write_update.Goals as goal
 
-pub plan_of-plan-requires : goal.plan_of-plan-requires
-plan_of-plan-requires c = let q = parts_values _ _ _ _ _ _ _ c.update_parts-p.ensures c.requires.0.rest in (q.0, q.1)
+pub plan-plan-requires : goal.plan-plan-requires
+plan-plan-requires c = let q = parts_values _ _ _ _ _ _ _ c.update_parts-p.ensures c.requires.0.rest in (q.0, q.1)
 
-pub put_plan-place-requires : goal.put_plan-place-requires
-put_plan-place-requires c =
+pub put_plan-requires : goal.put_plan-requires
+put_plan-requires c =
     let q = parts_values _ _ _ _ _ _ _ c.update_parts-p.ensures c.requires.0.rest in (
       q.0,
       q.2,
-      c.plan_of-plan.ensures.fits,
+      c.plan-plan.ensures.fits,
       parts_room _ _ _ _ _ _ _ c.update_parts-p.ensures _
-          (λ a b t x y z. c.plan_of-plan.ensures.is a b t x y ∙ ap (λ (vs : List ℤ). plan_words (value_words c.args.scope.now.table.now c.args.scope.now.configuration.now c.update_parts-p.result.dictionary) c.plan_of-plan.result vs) (sym z.words)) _ _ c.requires.0,
+          (λ a b t x y z. c.plan-plan.ensures.is a b t x y ∙ ap (λ (vs : List ℤ). plan_words (value_words c.args.scope.now.table.now c.args.scope.now.configuration.now c.update_parts-p.result.dictionary) c.plan-plan.result vs) (sym z.words)) _ _ c.requires.0,
     )
 
 pub returns : goal.returns
@@ -23,6 +23,6 @@ returns c =
     record {
       words = _;
       item = parts_words _ _ _ _ _ _ _ c.update_parts-p.ensures _
-          (λ a b t x y z. c.plan_of-plan.ensures.is a b t x y ∙ ap (λ (vs : List ℤ). plan_words (value_words c.args.scope.now.table.now c.args.scope.now.configuration.now c.update_parts-p.result.dictionary) c.plan_of-plan.result vs) (sym z.words));
-      puts = c.put_plan-place.ensures;
+          (λ a b t x y z. c.plan-plan.ensures.is a b t x y ∙ ap (λ (vs : List ℤ). plan_words (value_words c.args.scope.now.table.now c.args.scope.now.configuration.now c.update_parts-p.result.dictionary) c.plan-plan.result vs) (sym z.words));
+      puts = c.put_plan.ensures;
     }
