@@ -76,9 +76,8 @@ module _ (ws cs : List ℤ) (log : List ℕ) (limit : ℕ) (out : List ℤ) (cho
       (sym (ap (λ (o : Outcome (ReplayResult Term)). replay_work limit log o work) h ∙ replay_work_refused work limit log e))
 
   -- ---- 1 and 2
-  pub not_accepted : (r : Result (Unit {0}) Refusal) (e : Refusal) → r ≡ or_second (table_check ws) (configuration_check cs) → r ≡ Err e → CountedContract ws cs log limit out choices work out choices work (Err e)
-  not_accepted r e a h =
-      refusal e (replay_outcome_is ws cs log limit (length out) (length choices) (length work) ∙ refused_first ws cs _ e (sym a ∙ h))
+  pub not_accepted : (e : Refusal) → or_second (table_check ws) (configuration_check cs) ≡ Err e → CountedContract ws cs log limit out choices work out choices work (Err e)
+  not_accepted e h = refusal e (replay_outcome_is ws cs log limit (length out) (length choices) (length work) ∙ refused_first ws cs _ e h)
 
   -- ---- the words are accepted
   module _ (table : IsTable ws (table_of ws)) (acc : Accepted cs) where

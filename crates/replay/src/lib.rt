@@ -14,8 +14,8 @@ ghost use Rattle.replay.specs.Endings.{SetsUp, AcceptedContract};
 
 use crate::search::Search;
 use memory::frame;
-use minuska::limits::MAX_ACTIONS;
-use minuska::{INDEX_LEN, Refusal, ReplayAnswer};
+use minuska::limits::{MAX_ACTIONS, MAX_RULES};
+use minuska::{Refusal, ReplayAnswer, Row};
 use table::checked::Table;
 use term::configuration::Configuration;
 
@@ -62,11 +62,36 @@ fn replay_short(log: &[u16], limit: usize, out: usize, choices: usize, work: usi
         || sizes::lacks_frames(work, log.len() + 1, limit)
 }
 
+// The replay of checked words: refusals 3 to 5, then the search.
+fn replay_checked(
+    table: Table,
+    configuration: Configuration,
+    log: &[u16],
+    limit: usize,
+    out: &mut [i64],
+    choices: &mut [u16],
+    work: &mut [i64],
+) -> Result<Option<usize>, Refusal>
+    ensures { CountedContract table.entry.words.now configuration.entry.words.now log.now limit out.old choices.old work.old out.new choices.new work.new result }
+{
+    let short = replay_short(log, limit, out.len(), choices.len(), work.len());
+    let nodes = configuration.words.len() / 2;
+    sizes::check_sizes(log.len(), MAX_ACTIONS, nodes, limit, short)?;
+    let search = Search {
+        table,
+        log,
+        rules: table.rules(),
+        room: 2 * limit,
+        remember: true,
+    };
+    replay_accepted(&search, configuration, out, choices, work)
+}
+
 // The replay, with the node count of its last configuration where there is a path.
-pub fn replay_counted<'a>(
-    table: &'a [i64],
+pub fn replay_counted(
+    table: &[i64],
     configuration: &[i64],
-    log: &'a [u16],
+    log: &[u16],
     limit: usize,
     out: &mut [i64],
     choices: &mut [u16],
@@ -74,26 +99,9 @@ pub fn replay_counted<'a>(
 ) -> Result<Option<usize>, Refusal>
     ensures { CountedContract table.now configuration.now log.now limit out.old choices.old work.old out.new choices.new work.new result }
 {
-    let mut index = [0u16; INDEX_LEN];
-    step::accept(table, configuration, &mut index)?;
-    let short = replay_short(log, limit, out.len(), choices.len(), work.len());
-    let nodes = configuration.len() / 2;
-    sizes::check_sizes(log.len(), MAX_ACTIONS, nodes, limit, short)?;
-    let checked = Table {
-        words: table,
-        index: &index,
-    };
-    let initial = Configuration {
-        words: configuration,
-    };
-    let search = Search {
-        table: checked,
-        log,
-        rules: checked.rules(),
-        room: 2 * limit,
-        remember: true,
-    };
-    replay_accepted(&search, initial, out, choices, work)
+    let mut index = [Row::EMPTY; MAX_RULES];
+    let (table, configuration) = step::checked(table, configuration, &mut index)?;
+    replay_checked(table, configuration, log, limit, out, choices, work)
 }
 
 // Refused; reproduced; over the limit, which is refusal 6; or not reproduced. The limit is in nodes.

@@ -8,6 +8,7 @@ ghost use Rattle.replay.specs.Reading.{table_of};
 use memory::frame;
 use minuska::{Refusal, Stepped};
 use table::checked::Table;
+use term::configuration::Configuration;
 
 // What one turn comes to.
 #[derive(Clone, Copy)]
@@ -67,14 +68,10 @@ impl Search<'_> {
         ensures { TryContract self.now.table.words.now (words_of frame.now) (get_or (order (table_of self.now.table.words.now)) position 0) self.now.room out.old out.new result }
     {
         let rule = self.table.ordered(position);
-        let configuration = frame::configuration(frame);
-        step::apply_rule(
-            self.table.words,
-            self.table.index,
-            configuration,
-            rule,
-            &mut out[..self.room],
-        )
+        let configuration = Configuration {
+            words: frame::configuration(frame),
+        };
+        step::by_rule(self.table, configuration, rule, &mut out[..self.room])
     }
 
     // A successor, the first `words` words of out: it is entered, unless it is the last, or is known and the search remembers.

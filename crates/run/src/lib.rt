@@ -187,6 +187,30 @@ pub fn run_accepted(
     ended.answer
 }
 
+// The run of checked words: refusals 3 to 5, then the steps.
+fn run_checked(
+    table: Table,
+    configuration: Configuration,
+    budget: usize,
+    limit: usize,
+    out: &mut [i64],
+    spare: &mut [i64],
+) -> Result<RunAnswer, Refusal>
+    ensures { RunContract table.entry.words.now configuration.entry.words.now budget limit out.old spare.old out.new spare.new result }
+{
+    let nodes = configuration.words.len() / 2;
+    let short = run_short(limit, out.len(), spare.len());
+    sizes::check_sizes(budget, MAX_STEPS, nodes, limit, short)?;
+    Ok(run_accepted(
+        table,
+        configuration,
+        budget,
+        limit,
+        out,
+        spare,
+    ))
+}
+
 // The run: a budget of steps, a limit in nodes, out and spare of at least twice as many words.
 pub fn run(
     table: &[i64],
@@ -200,15 +224,5 @@ pub fn run(
 {
     let mut index = [Row::EMPTY; MAX_RULES];
     let (table, configuration) = step::checked(table, configuration, &mut index)?;
-    let nodes = configuration.words.len() / 2;
-    let short = run_short(limit, out.len(), spare.len());
-    sizes::check_sizes(budget, MAX_STEPS, nodes, limit, short)?;
-    Ok(run_accepted(
-        table,
-        configuration,
-        budget,
-        limit,
-        out,
-        spare,
-    ))
+    run_checked(table, configuration, budget, limit, out, spare)
 }

@@ -161,7 +161,7 @@ module _ (table config : List ℤ) (d k : Value) (q : Root) (key_is : RootIs tab
                 (kept_words _ count _ (c.many v) (c.words v) ∙
                 (ap (λ (y : Bool). cond y (pos 5 ∷ pos count ∷ placed ws from to q.datum (encode (single v))) (pos 0 ∷ pos 0 ∷ [])) (le-leb count 64 l) ∙
                 ap (λ (xs : List ℤ). pos 5 ∷ pos count ∷ placed xs from to q.datum (encode (single v))) p));
-            fits = record { order = b.order; within = subst (λ (xs : List ℤ). to ≤ length xs) p b.within; few = l };
+            fits = record { order = b.order; within = subst (λ (xs : List ℤ). to ≤ length xs) p b.within; few = omega arith };
           }
 
       pub plan_full : 64 < count → PlanContract table config d k S.None

@@ -1,5 +1,5 @@
 -- An update: where its entry goes among a dictionary's entries, and its words.
-use Rattle.std.specs.Prelude.{◌≡◌, List, [], ◌∷◌, ◌++◌, ℕ, ◌≤◌, ℤ, pos, length, take, drop, Option, None, Some, IfSome}
+use Rattle.std.specs.Prelude.{◌≡◌, List, [], ◌∷◌, ◌++◌, ℕ, suc, ◌≤◌, ℤ, pos, length, take, drop, Option, None, Some, IfSome}
 use Rattle.minuska.specs.Term.{Term, cons, single}
 use Rattle.minuska.specs.Dictionary.{max_entries}
 use Rattle.minuska.specs.Word.{encode}
@@ -22,7 +22,7 @@ plan_words xs (Some p) vs = pos 5 ∷ pos p.count ∷ placed (drop 2 xs) p.repla
 pub record PlanFits (ws : List ℤ) (p : Plan) : Type 0 where
   pub order : p.replaced.from ≤ p.replaced.to
   pub within : p.replaced.to ≤ length ws
-  pub few : p.count ≤ max_entries
+  pub few : p.count ≤ suc max_entries
 
 -- WHAT AN UPDATE IS WORTH, of whatever terms its arguments' values are: the words that the plan says
 pub record PlanContract (table config : List ℤ) (d k : Value) (r : Option Plan) : Type 0 where
