@@ -34,6 +34,7 @@ impl Item for i64 {
         i64::try_from(number).ok()
     }
 
+    #[inline]
     #[tactic(auto, using(crate::proofs::PrintTurn::whole_same))]
     fn put(self, text: &mut Text) {
         let mut buffer = Buffer::new();
@@ -67,6 +68,7 @@ impl Item for u64 {
         u64::try_from(number).ok()
     }
 
+    #[inline]
     #[tactic(auto, using(crate::proofs::PrintTurn::decimal_same))]
     fn put(self, text: &mut Text) {
         let mut buffer = Buffer::new();

@@ -21,6 +21,7 @@ impl<'a> Text<'a> {
         Text { output, at: 0 }
     }
 
+    #[inline]
     #[tactic(auto, using(crate::proofs::PrintTurn::wrote_part))]
     pub fn put_text(&mut self, bytes: &[u8])
         requires { HasRoom self.old (length bytes.now) }
