@@ -220,14 +220,8 @@ module _ (w : List ℤ) (words : ℕ) where
   pub opens_readies : (w' : List ℤ) → Opens w w' → Readies w w' words
   opens_readies w' o = record { inside = o.inside; files = λ c h f. absurd (o.none_filed c f); stands = o.stands }
 
-  pub slot_readies : (p : ℕ) → Slot w words p → Readies w w words
-  slot_readies p s = record { inside = unchanged w; files = λ c h f. record { some = s.some; own = s.own; filed = f }; stands = λ h. refl }
-
   pub kept_shut : (w' : List ℤ) → Opens w w' → Keeping w w' words
   kept_shut w' o = record { inside = o.inside; files = λ c h f. absurd (o.none_filed c f) }
-
-  pub kept_small : length w < least → Keeping w w words
-  kept_small h = record { inside = unchanged w; files = λ c k f. absurd (let l = f.wide in let x : ⊥ = omega arith in x) }
 
   pub kept_both : (w₁ w₂ : List ℤ) → Readies w w₁ words → Puts w₁ w₂ → Keeping w w₂ words
   kept_both w₁ w₂ r p =

@@ -27,7 +27,7 @@ use Rattle.memory.specs.Layout.{base, frame_at, entered, Enters, OwnFits}
 use Rattle.replay.specs.Counted.{counted_answer}
 use Rattle.replay.specs.Stack.{chosen}
 use Rattle.replay.specs.Turns.{term_at, position_at, SoundFrames, Held, MemoryOf, state_of, SlicesFit, SearchSays, SearchContract}
-use Rattle.replay.specs.Endings.{SetsUp, restored, FoundWithin, concluded_as, found_words, choices_after, EndContract, AcceptedContract}
+use Rattle.replay.specs.Endings.{SetsUp, restored, concluded_as, found_words, choices_after, EndContract, AcceptedContract}
 use Rattle.replay.proofs.ReadingLaw.{is_term}
 use Rattle.replay.proofs.StackLaw as Stack
 use Rattle.replay.proofs.StackLaw.{chosen_long}
@@ -111,9 +111,6 @@ module _ (ws : List ℤ) (rules room : ℕ) (cs : List ℤ) (log : List ℕ) (ou
     opened_long : length opened ≡ length work
     opened_long = ap length up.is ∙ with_long room work₁ 0 (entered frame cs) fits₁ wide₁ ∙ long₁
 
-    pub opened_fits : SlicesFit room log out opened
-    opened_fits = record { out_fits = rm.out_fits; work_fits = omega (arith, rm.work_fits, opened_long) }
-
     own_empty : (i : ℕ) → i < length log → OwnFits (frame_at room work₁ i)
     own_empty i h =
         let w = frame_long room work₁ i (omega (arith, frame_before room i (length log) h, rm.work_fits, long₁)) in
@@ -169,15 +166,7 @@ module _ (ws : List ℤ) (rules room : ℕ) (cs : List ℤ) (log : List ℕ) (ou
       saved' : drop last work' ≡ take room out ++ drop (last + room) work
       saved' = found.kept.work_kept ∙ saved
 
-      within : (x : Result (Option ℕ) Refusal) → SearchSays t rules room log opened out' work' x → FoundWithin x rules (length log) room work'
-      within (Ok (Some k)) s = (s.0.fits, s.0.begun)
-      within (Ok None) s = tt
-      within (Err r) s = tt
-
-      pub end_within : FoundWithin f rules (length log) room work'
-      end_within = within f found.says
-
-      pub end_fits : SlicesFit room log out' work'
+      end_fits : SlicesFit room log out' work'
       end_fits = record { out_fits = omega (arith, rm.out_fits, found.kept.wide); work_fits = omega (arith, rm.work_fits, opened_long, found.kept.long) }
 
       work_same : write_zeros (last + (room + 2)) work' ≡ write_zeros (last + (room + 2)) work

@@ -326,7 +326,7 @@ module _ (ws : List ℤ) (rules room : ℕ) (log : List ℕ) (out work : List �
       unfolding work₁
       turned remember w x k = settled out' r tells remember w x k
 
-      -- what `settle` asks of the answer, of the frames and of the slices
+      -- what `settle` asks of the answer and of the frames
       within : (x : Answer) → Tells (next t action rule (term d)) room out out' x → MadeWithin x room (length out')
       within (Ok None) z = tt
       within (Err x) z = tt
@@ -337,10 +337,6 @@ module _ (ws : List ℤ) (rules room : ℕ) (log : List ℕ) (out work : List �
 
       pub made_within : MadeWithin r room (length out')
       made_within = within r tells
-
-      pub slices_within : SlicesFit room log out' (with_frame room work d (advanced (frame_at room work d) (q + 1)))
-      unfolding work₁
-      slices_within = record { out_fits = omega (arith, tells.wide, rm.slices.out_fits); work_fits = omega (arith, long₁, rm.slices.work_fits) }
 
     pub spare_within : (i : ℕ) → i < length log → OwnFits (frame_at room (with_frame room work d (advanced (frame_at room work d) (q + 1))) i)
     unfolding work₁
