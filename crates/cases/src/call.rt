@@ -4,6 +4,7 @@ use crate::show;
 use crate::text::front;
 use std::io;
 use term::{LOOKUP, UPDATE};
+use value::builtin::Root;
 
 // What the lines so far have kept, and the numbers of a call's line.
 #[derive(Clone, Copy)]
@@ -22,7 +23,10 @@ impl<'a> Call<'a> {
         if code == LOOKUP || code == UPDATE {
             return print!(rt; "not of single nodes");
         }
-        let value = show::Value(value::builtin::apply(code, a, x, b, y, c, z));
+        let first = Root { tag: a, datum: x };
+        let second = Root { tag: b, datum: y };
+        let third = Root { tag: c, datum: z };
+        let value = show::Value(value::builtin::apply(code, first, second, third));
         print!(rt; "{value}")
     }
 

@@ -5,4 +5,3 @@ pub mod Verdict
 pub mod Among
 pub mod Reasons
 pub mod Right
-pub mod Accept

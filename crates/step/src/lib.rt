@@ -9,10 +9,9 @@ mod rule;
 
 ghost use Rattle.std.specs.Prelude.{◌≡◌, ◌≤◌, IfOk, OnOk, IfErr, Ok, Err};
 ghost use Rattle.minuska.specs.Contract.{MatchRuleContract, ReasonsContract, StepByRuleContract, StepContract};
-ghost use Rattle.minuska.specs.Bridge.Place.{Indexed, Names, Accepted, RuleCountIs, ActionIs, OrderedIs, Positions};
+ghost use Rattle.minuska.specs.Bridge.Place.{Names, Positions};
 ghost use Rattle.minuska.specs.Computed.Outcome.{table_check, configuration_check, or_second};
 ghost use Rattle.minuska.specs.Slice.{out_limit};
-ghost use Rattle.step.specs.Accept.{AcceptContract};
 ghost use Rattle.step.specs.Apply.{SomeMatched, Instantiated};
 ghost use Rattle.step.specs.Verdict.{VerdictIs};
 ghost use Rattle.step.specs.Among.{KeyFor, AmongIs};
@@ -249,72 +248,4 @@ fn out_limit(words: usize) -> usize
     ensures { result ≡ out_limit words }
 {
     (words / 2).min(MAX_NODES)
-}
-
-// The same three for callers that keep the words and the index apart, and what they ask of a table.
-pub fn accept(table: &[i64], configuration: &[i64], index: &mut Index) -> Result<(), Refusal>
-    ensures { AcceptContract table.now configuration.now index.old index.new result }
-{
-    table::index_table(table, index)?;
-    term::check_configuration(configuration)
-}
-
-pub fn apply_rule(
-    table: &[i64],
-    index: &Index,
-    configuration: &[i64],
-    rule: usize,
-    out: &mut [i64],
-) -> Result<Option<Stepped>, Refusal>
-    requires { Indexed table.now index.now × Accepted configuration.now }
-    ensures { StepByRuleContract table.now configuration.now rule out.old out.new result }
-{
-    let table = Table {
-        words: table,
-        index,
-    };
-    let configuration = Configuration {
-        words: configuration,
-    };
-    by_rule(table, configuration, rule, out)
-}
-
-pub fn apply_earliest(
-    table: &[i64],
-    index: &Index,
-    configuration: &[i64],
-    out: &mut [i64],
-) -> Result<Option<Stepped>, Refusal>
-    requires { Indexed table.now index.now × Accepted configuration.now }
-    ensures { StepContract table.now configuration.now out.old out.new result }
-{
-    let table = Table {
-        words: table,
-        index,
-    };
-    let configuration = Configuration {
-        words: configuration,
-    };
-    earliest(table, configuration, out)
-}
-
-pub fn rule_count(table: &[i64], index: &Index) -> usize
-    requires { Indexed table.now index.now }
-    ensures { RuleCountIs table.now result }
-{
-    table::rule_count(table, index)
-}
-
-pub fn action(table: &[i64], index: &Index, rule: usize) -> u16
-    requires { Indexed table.now index.now }
-    ensures { ActionIs table.now rule result }
-{
-    table::action(table, index, rule)
-}
-
-pub fn ordered(table: &[i64], index: &Index, position: usize) -> usize
-    requires { Indexed table.now index.now }
-    ensures { OrderedIs table.now position result }
-{
-    table::ordered(table, index, position)
 }

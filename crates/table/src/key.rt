@@ -1,9 +1,6 @@
 // Keys of nodes: a rule whose left's root has another key than the configuration's root does not match.
-ghost use Rattle.std.specs.Prelude.{◌≡◌, ◌≤◌, ◌<◌};
-ghost use Rattle.minuska.specs.Bridge.Place.{key_of, remainder, Indexed, Accepted, Positions, RootKeyIs, SeekIs};
-
-use crate::checked::Table;
-use minuska::Index;
+ghost use Rattle.std.specs.Prelude.{◌≡◌, ◌<◌};
+ghost use Rattle.minuska.specs.Bridge.Place.{key_of, remainder, Accepted, RootKeyIs};
 
 // What is left of a word by a number; nothing of one below 0.
 fn remainder(word: i64, by: usize) -> usize
@@ -30,16 +27,4 @@ pub fn root(configuration: &[i64]) -> usize
     ensures { RootKeyIs configuration.now result }
 {
     usize::from(key(configuration[0], configuration[1]))
-}
-
-// What `Table::seek` says of words and an index that are known to be one.
-pub fn seek(table: &[i64], index: &Index, root: usize, from: usize, to: usize) -> usize
-    requires { Indexed table.now index.now × Positions table.now to × (from ≤ to) }
-    ensures { SeekIs table.now root from to result }
-{
-    Table {
-        words: table,
-        index,
-    }
-    .seek(root, from, to)
 }
