@@ -71,6 +71,7 @@ pub fn match_left(
     let words = configuration.words;
     let mut i = left.from;
     let mut j: usize = 0;
+    // A while loop: the left goes on by a node, the configuration by a node or a term.
     while i < left.to {
         let Some(turn) = turn_at(table, i, left.to, words, j, places) else {
             return Err((i - left.from) / 2);

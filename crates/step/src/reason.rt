@@ -19,6 +19,7 @@ pub fn judge_all(
     let root = table::key::root(configuration.words);
     let count = table.rules();
     let mut position = table.seek(root, 0, count);
+    // A while loop: positions are passed over by a search.
     while position < count {
         let rule = table.ordered(position);
         let Err(obstacle) = crate::judge_alone(table, configuration, rule) else {

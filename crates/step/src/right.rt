@@ -133,6 +133,7 @@ pub fn measure_right(scope: &Scope, right: Span, room: usize) -> bool
 {
     let mut i = right.from;
     let mut left = room;
+    // A while loop: each item says where the next begins.
     while i < right.to {
         let x = item_size(scope, i, right.to);
         if left < x.words {
@@ -211,6 +212,7 @@ pub fn write_right(scope: &Scope, right: Span, out: &mut [i64]) -> usize
 {
     let mut i = right.from;
     let mut o: usize = 0;
+    // A while loop: each item says where the next begins.
     while i < right.to {
         let x = write_item(scope, i, right.to, out, o);
         o = x.place;
