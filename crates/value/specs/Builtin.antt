@@ -1,5 +1,5 @@
 -- "A call's function code is one of these eighteen": `minuska`'s table, on the roots of the arguments.
-use Rattle.std.specs.Prelude.{◌≡◌, cond, ℕ, zero, suc, ◌-◌, ◌^◌, ◌≤◌, eqb, leb, ℤ, pos, negsuc}
+use Rattle.std.specs.Prelude.{◌≡◌, cond, ℕ, zero, suc, ◌-◌, ◌^◌, eqb, leb, ℤ, pos, negsuc}
 use Rattle.minuska.specs.Term.{Label, error, truth, whole, symbol, dictionary, Forest, nil, node}
 use Rattle.minuska.specs.Word.{tag_word, datum_word}
 use Rattle.minuska.specs.Function.{interpret}
