@@ -35,7 +35,7 @@ pub struct Stepped {
     pub nodes: usize,
 }
 
-// A rule's left matched against a configuration, with how many of the left's nodes were compared (document 02, request 3).
+// A rule's left matched against a configuration, with how many of the left's nodes were compared (document 02, request 3). Not a Result: neither case is an error.
 #[derive(Clone, Copy, Debug, PartialEq, Eq)]
 pub enum MatchAnswer {
     // it matches, and all were

@@ -152,6 +152,7 @@ impl Search<'_> {
     {
         let mut depth = 0;
         let mut over = false;
+        // A loop: no range has its turns, which go down and back up.
         loop {
             match self.turn(depth, out, work) {
                 Turned::On(next) => depth = next,

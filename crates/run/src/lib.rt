@@ -201,14 +201,7 @@ fn run_checked(
     let nodes = configuration.words.len() / 2;
     let short = run_short(limit, out.len(), spare.len());
     sizes::check_sizes(budget, MAX_STEPS, nodes, limit, short)?;
-    Ok(run_accepted(
-        table,
-        configuration,
-        budget,
-        limit,
-        out,
-        spare,
-    ))
+    Ok(run_accepted(table, configuration, budget, limit, out, spare))
 }
 
 // The run: a budget of steps, a limit in nodes, out and spare of at least twice as many words.

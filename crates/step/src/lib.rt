@@ -206,6 +206,7 @@ fn apply_among(
     let mut places = Places::new();
     let mut rule = first;
     let mut next = others.from;
+    // A loop: positions are passed over by a search, and the first rule stands at none.
     loop {
         let Err(obstacle) = rule::judge(table, rule, configuration, &mut places) else {
             let stepped = write_within(table, rule, configuration, &places, out)?;

@@ -139,6 +139,7 @@ pub fn side_end<const LEFT: bool, const MIXED: bool>(
     let mut fixed: usize = 0;
     let mut leaves: usize = 0;
     let mut met = false;
+    // A while loop: how many terms are to come is read on the way.
     while 0 < k {
         let turn = side_turn::<LEFT, MIXED>(table, i, seen)?;
         i = turn.end;

@@ -133,6 +133,7 @@ pub fn tagged_terms(s: &[i64], at: usize, count: usize) -> Reached
     let n = s.len();
     let mut i = at;
     let mut k = count;
+    // A while loop: how many nodes are to come is read on the way.
     while 0 < k {
         if n - i < 2 {
             return Reached { at: i, left: k };
@@ -170,6 +171,7 @@ fn ground_mixed(s: &[i64], at: usize, count: usize) -> Option<usize>
     let n = s.len();
     let mut i = at;
     let mut k = count;
+    // A while loop: how many nodes are to come is read on the way.
     while 0 < k {
         if n - i < 2 * k {
             return None;

@@ -144,7 +144,7 @@ fn terms_end<const ANY: bool>(s: &[i64], at: usize, count: usize) -> usize
     i
 }
 
-// The same where dictionaries are met.
+// The same where dictionaries are met; a while loop for the same reason.
 fn mixed_end<const ANY: bool>(s: &[i64], at: usize, count: usize) -> usize
     requires { TermsAt (walked ANY) s.now at count }
     ensures { TermsEnd (walked ANY) s.now at count result }

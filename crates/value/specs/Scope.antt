@@ -53,16 +53,16 @@ module _ (s : Scope) where
   LeafHere at = LeafIn s.table.now s.configuration.now s.places.now.starts s.places.now.ends at
 
   abbrev pub ShortHere : ℕ → Type 0
-  ShortHere at = ShortIn s.table.now s.configuration.now s.places.now.starts s.places.now.ends at
+  ShortHere at = ShortIn s.table.now s.configuration.now s.places.now.starts at
 
   abbrev pub ShortIs : ℕ → Root → Type 0
-  ShortIs at r = ShortContract s.table.now s.configuration.now s.places.now.starts s.places.now.ends at r
+  ShortIs at r = ShortContract s.table.now s.configuration.now s.places.now.starts at r
 
   abbrev pub ArgumentHere : ℕ → Type 0
-  ArgumentHere at = ArgumentIn s.table.now s.configuration.now s.places.now.starts s.places.now.ends at
+  ArgumentHere at = ArgumentIn s.table.now s.configuration.now s.places.now.starts at
 
   abbrev pub ArgumentIs : ℕ → Root → Type 0
-  ArgumentIs at r = ArgumentContract s.table.now s.configuration.now s.places.now.starts s.places.now.ends at r
+  ArgumentIs at r = ArgumentContract s.table.now s.configuration.now s.places.now.starts at r
 
   abbrev pub ConditionHere : ℕ → Type 0
   ConditionHere at = ConditionIn s.table.now s.configuration.now s.places.now.starts s.places.now.ends at

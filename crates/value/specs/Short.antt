@@ -24,17 +24,20 @@ module _ (table : List ℤ) (at : ℕ) where
     pub first : lt_z (get_or table (at + 2) (pos 0)) (pos 4) ≡ true
     pub second : lt_z (get_or table (at + 4) (pos 0)) (pos 4) ≡ true
 
-module _ (table config : List ℤ) (starts ends : List ℕ) (at : ℕ) where
+-- where their variables end does not matter
+module _ (table config : List ℤ) (starts : List ℕ) (at : ℕ) where
   pub record ShortIn : Type 0 where
+    pub ends : List ℕ
     pub call : CallIn table config starts ends at
     pub short : Short table at
 
   pub record ShortContract (r : Root) : Type 0 where
-    pub evaluates : EvaluateContract table config starts ends at (record { value = Computed r; next = at + 6 })
+    pub over : (ends : List ℕ) → EvaluateContract table config starts ends at (record { value = Computed r; next = at + 6 })
 
   pub record ArgumentIn : Type 0 where
+    pub ends : List ℕ
     pub expression : ExpressionIn table config starts ends at
     pub low : lt_z (get_or table at (pos 0)) (pos 4) ≡ true
 
   pub record ArgumentContract (r : Root) : Type 0 where
-    pub meant : (ρ : Valuation) (e t : Term) → HasValue table config starts ends at ρ e t → Head r t.label (term_count t.children)
+    pub over : (ends : List ℕ) (ρ : Valuation) (e t : Term) → HasValue table config starts ends at ρ e t → Head r t.label (term_count t.children)

@@ -13,17 +13,17 @@ is_short_call-requires c =
 pub short_call-root-requires : goal.short_call-root-requires
 short_call-root-requires c =
     let t : FitsSigned w64 (get_or c.args.scope.now.table.now c.args.at (pos 0)) = search rules in
-    record { call = call_needs _ _ _ _ _ _ c.requires.0.before (tag_four t c.if-tag-eq-CALL.true) c.requires.1 c.requires.0.rest; short = c.is_short_call.ensures c.if-is_short_call.true }
+    record { ends = _; call = call_needs _ _ _ _ _ _ c.requires.0.before (tag_four t c.if-tag-eq-CALL.true) c.requires.1 c.requires.0.rest; short = c.is_short_call.ensures c.if-is_short_call.true }
 
 pub put-requires : goal.put-requires
 put-requires c =
     let t : FitsSigned w64 (get_or c.args.scope.now.table.now c.args.at (pos 0)) = search rules in
-    item_room _ _ _ _ _ _ c.requires.0.before _ (evaluated_is _ _ _ _ _ _ c.requires.0.before (tag_four t c.if-tag-eq-CALL.true) c.requires.1 _ c.short_call-root.ensures.evaluates) _ _ c.requires.0
+    item_room _ _ _ _ _ _ c.requires.0.before _ (evaluated_is _ _ _ _ _ _ c.requires.0.before (tag_four t c.if-tag-eq-CALL.true) c.requires.1 _ (c.short_call-root.ensures.over _)) _ _ c.requires.0
 
 pub returns-then-is_short_call : goal.returns-then-is_short_call
 returns-then-is_short_call c =
     let t : FitsSigned w64 (get_or c.args.scope.now.table.now c.args.at (pos 0)) = search rules in
-    record { words = _; item = item_words _ _ _ _ _ _ c.requires.0.before _ (evaluated_is _ _ _ _ _ _ c.requires.0.before (tag_four t c.if-tag-eq-CALL.true) c.requires.1 _ c.short_call-root.ensures.evaluates); puts = c.put.ensures }
+    record { words = _; item = item_words _ _ _ _ _ _ c.requires.0.before _ (evaluated_is _ _ _ _ _ _ c.requires.0.before (tag_four t c.if-tag-eq-CALL.true) c.requires.1 _ (c.short_call-root.ensures.over _)); puts = c.put.ensures }
 
 pub bounds-scope-at-then-tag-ne-VARIABLE : goal.bounds-scope-at-then-tag-ne-VARIABLE
 bounds-scope-at-then-tag-ne-VARIABLE c = omega (arith, node_within c.requires.0.before c.requires.0.rest)

@@ -29,14 +29,14 @@ pub is_node-requires : goal.is_node-requires
 is_node-requires c =
     let f : SFits w64 (get_or c.args.self.now.table.now (c.args.at + 6) (pos 0)) = search rules in
     let low = rw (to_z-of_z f) at c.if-self-at-lt-VARIABLE.true in
-    (record { term = _; is = (first_meant c.args.self.now.table.now c.args.self.now.configuration.now c.args.self.now.places.now.starts c.args.self.now.places.now.ends c.args.at (record { value = Computed c.short_call-root.result; next = c.args.at + 6 }) c.short_call-root.ensures.evaluates c.requires.valuation c.requires.condition c.requires.stands).is }, record { term = _; is = (literal c.args.self.now.table.now c.args.self.now.configuration.now c.args.self.now.places.now.starts c.args.self.now.places.now.ends c.args.at (record { value = Computed c.short_call-root.result; next = c.args.at + 6 }) c.short_call-root.ensures.evaluates low c.requires.valuation c.requires.condition c.requires.stands).is })
+    (record { term = _; is = (first_meant c.args.self.now.table.now c.args.self.now.configuration.now c.args.self.now.places.now.starts c.args.self.now.places.now.ends c.args.at (record { value = Computed c.short_call-root.result; next = c.args.at + 6 }) (c.short_call-root.ensures.over _) c.requires.valuation c.requires.condition c.requires.stands).is }, record { term = _; is = (literal c.args.self.now.table.now c.args.self.now.configuration.now c.args.self.now.places.now.starts c.args.self.now.places.now.ends c.args.at (record { value = Computed c.short_call-root.result; next = c.args.at + 6 }) (c.short_call-root.ensures.over _) low c.requires.valuation c.requires.condition c.requires.stands).is })
 
 pub returns-then-self-at-lt-VARIABLE : goal.returns-then-self-at-lt-VARIABLE
 returns-then-self-at-lt-VARIABLE c =
     let f : SFits w64 (get_or c.args.self.now.table.now (c.args.at + 6) (pos 0)) = search rules in
     let low = rw (to_z-of_z f) at c.if-self-at-lt-VARIABLE.true in
     let n : c.args.at + 6 + 2 ≡ c.args.at + 8 = omega arith in
-    subst (λ (m : ℕ). ConditionContract c.args.self.now.table.now c.args.self.now.configuration.now c.args.self.now.places.now.starts c.args.self.now.places.now.ends c.args.at (record { holds = c.is_node.result; next = m })) n (by_node c.args.self.now.table.now c.args.self.now.configuration.now c.args.self.now.places.now.starts c.args.self.now.places.now.ends c.args.at (record { value = Computed c.short_call-root.result; next = c.args.at + 6 }) c.short_call-root.ensures.evaluates low c.is_node.result c.is_node.ensures)
+    subst (λ (m : ℕ). ConditionContract c.args.self.now.table.now c.args.self.now.configuration.now c.args.self.now.places.now.starts c.args.self.now.places.now.ends c.args.at (record { holds = c.is_node.result; next = m })) n (by_node c.args.self.now.table.now c.args.self.now.configuration.now c.args.self.now.places.now.starts c.args.self.now.places.now.ends c.args.at (record { value = Computed c.short_call-root.result; next = c.args.at + 6 }) (c.short_call-root.ensures.over _) low c.is_node.result c.is_node.ensures)
 
 pub offset_bounds-self-first : goal.offset_bounds-self-first
 offset_bounds-self-first c = let r = behind_room c.args.self.now.table.now c.args.self.now.configuration.now c.args.self.now.places.now.starts c.args.self.now.places.now.ends c.args.at c.evaluate-first.result c.evaluate-first.ensures c.requires in omega arith
