@@ -105,7 +105,7 @@ fn compare(table: Table, configuration: Configuration, rule: usize) -> MatchAnsw
 }
 
 // Why each rule does not apply, if none does.
-fn list_reasons(
+pub fn list_reasons(
     table: Table,
     configuration: Configuration,
     list: &mut [i64],

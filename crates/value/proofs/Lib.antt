@@ -1,4 +1,5 @@
 pub mod SignedLaw
+pub mod ShareLaw
 pub mod BuiltinLaw
 pub mod InterpretLaw
 pub mod RootLaw

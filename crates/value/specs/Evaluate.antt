@@ -67,11 +67,6 @@ module _ (table config : List ℤ) (starts ends : List ℕ) (at : ℕ) where
     pub expression : ExpressionIn
     pub tag : get_or table at (pos 0) ≡ pos 4
 
-  -- A VARIABLE OR A LITERAL
-  pub record LeafIn : Type 0 where
-    pub expression : ExpressionIn
-    pub tag : get_or table at (pos 0) ≡ pos 4 → ⊥
-
   -- AN ARGUMENT LIST: its first value, error where there is none. The rest of the list stands behind it.
   pub record HaveValues (ρ : Valuation) (es xs : Forest) : Type 0 where
     pub placed : Placed ρ es
@@ -90,6 +85,16 @@ module _ (table config : List ℤ) (starts ends : List ℕ) (at : ℕ) where
 
   pub record ArgumentsContract (wanted : Bool) (r : Evaluated) : Type 0 where
     pub meant : (ρ : Valuation) (es xs : Forest) → HaveValues ρ es xs → wanted ≡ ltb 0 (term_count es) → FirstMeant es xs r
+
+-- A VARIABLE OR A LITERAL: its value is found in the table and the arrays, whatever the configuration holds there.
+module _ (table : List ℤ) (starts ends : List ℕ) (at : ℕ) where
+  pub record LeafIn : Type 0 where
+    pub config : List ℤ
+    pub expression : ExpressionIn table config starts ends at
+    pub tag : get_or table at (pos 0) ≡ pos 4 → ⊥
+
+  pub record LeafContract (r : Evaluated) : Type 0 where
+    pub over : (config : List ℤ) → EvaluateContract table config starts ends at r
 
 -- A SIDE CONDITION: two expressions one behind the other, both with a value.
 module _ (table config : List ℤ) (starts ends : List ℕ) (at : ℕ) where

@@ -1,6 +1,6 @@
 -- The contracts of expressions and of values over a scope: those of `Evaluate`, `Short`, `Root`, `Lookup` and `Update` at its table, its configuration and its places.
 use Rattle.std.specs.Prelude.{List, Bool, ℕ, ℤ, drop, Option, IfSome}
-use Rattle.value.specs.Evaluate.{ExpressionIn, EvaluateContract, CallIn, ArgumentsIn, ArgumentsContract, LeafIn, ConditionIn, ConditionContract}
+use Rattle.value.specs.Evaluate.{ExpressionIn, EvaluateContract, CallIn, ArgumentsIn, ArgumentsContract, LeafIn, LeafContract, ConditionIn, ConditionContract}
 use Rattle.value.specs.Lookup.{LookupContract}
 use Rattle.value.specs.Root.{ValueIn, RootIs, NodeIn}
 use Rattle.value.specs.Short.{ShortIn, ShortContract, ArgumentIn, ArgumentContract}
@@ -50,7 +50,10 @@ module _ (s : Scope) where
   ArgumentsAre at wanted r = ArgumentsContract s.table.now s.configuration.now s.places.now.starts s.places.now.ends at wanted r
 
   abbrev pub LeafHere : ℕ → Type 0
-  LeafHere at = LeafIn s.table.now s.configuration.now s.places.now.starts s.places.now.ends at
+  LeafHere at = LeafIn s.table.now s.places.now.starts s.places.now.ends at
+
+  abbrev pub LeafIs : ℕ → Evaluated → Type 0
+  LeafIs at r = LeafContract s.table.now s.places.now.starts s.places.now.ends at r
 
   abbrev pub ShortHere : ℕ → Type 0
   ShortHere at = ShortIn s.table.now s.configuration.now s.places.now.starts at

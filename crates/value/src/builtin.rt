@@ -111,7 +111,7 @@ fn comparison(code: usize, a: Root, b: Root) -> Root
 }
 
 // bool.neg.
-fn neg(a: Root) -> Root
+pub fn neg(a: Root) -> Root
     ensures { result ≡ root_of (applied 2 (label_of a) error error) }
 {
     if a.tag == TRUTH {
@@ -121,14 +121,14 @@ fn neg(a: Root) -> Root
 }
 
 // Whether both nodes are of a kind.
-fn both(kind: i64, a: Root, b: Root) -> bool
+pub fn both(kind: i64, a: Root, b: Root) -> bool
     ensures { result ≡ (same_whole a.tag kind && same_whole b.tag kind) }
 {
     (a.tag == kind) & (b.tag == kind)
 }
 
 // A truth value, on two arguments of a kind. It makes two tests of its own: with `both` it is compiled to compute either answer and to choose.
-fn truth_of_two(kind: i64, a: Root, b: Root, holds: bool) -> Root
+pub fn truth_of_two(kind: i64, a: Root, b: Root, holds: bool) -> Root
     ensures { result ≡ root_of (cond (same_whole a.tag kind && same_whole b.tag kind) (truth_term holds) wrong_kind).label }
 {
     if a.tag != kind {
@@ -167,7 +167,7 @@ pub fn minus(a: Root, b: Root) -> Root
 }
 
 // term.same_symbol.
-fn same_symbol(a: Root, b: Root) -> Root
+pub fn same_symbol(a: Root, b: Root) -> Root
     ensures { result ≡ root_of (applied 13 (label_of a) (label_of b) error) }
 {
     if a.tag < SYMBOL || b.tag < SYMBOL {
@@ -177,7 +177,7 @@ fn same_symbol(a: Root, b: Root) -> Root
 }
 
 // z.share.
-fn share(a: Root, b: Root, c: Root) -> Root
+pub fn share(a: Root, b: Root, c: Root) -> Root
     ensures { result ≡ root_of (applied 14 (label_of a) (label_of b) (label_of c)) }
 {
     if both(WHOLE, a, b) && c.tag == WHOLE {
@@ -187,7 +187,7 @@ fn share(a: Root, b: Root, c: Root) -> Root
 }
 
 // The ranges of z.share.
-fn in_range(a: i64, b: i64, c: i64) -> bool
+pub fn in_range(a: i64, b: i64, c: i64) -> bool
     ensures { result ≡ share_range a b c }
 {
     a.unsigned_abs() <= SHARE_MOST
@@ -196,7 +196,7 @@ fn in_range(a: i64, b: i64, c: i64) -> bool
 }
 
 // Within the ranges the product fits.
-fn quotient(a: i64, b: i64, c: i64) -> Root
+pub fn quotient(a: i64, b: i64, c: i64) -> Root
     ensures { result ≡ root_of (share_of a b c).label }
 {
     if in_range(a, b, c) {

@@ -1,7 +1,7 @@
 // Values that need no recursion: a variable's and a literal's; and a value's root.
 ghost use Rattle.std.specs.Prelude.{◌≡◌, ◌+◌, ◌<◌, length};
 ghost use Rattle.value.specs.Root.{root_at};
-ghost use Rattle.value.specs.Scope.{LeafHere, EvaluateIs, IsValueHere, IsRootOf};
+ghost use Rattle.value.specs.Scope.{LeafHere, LeafIs, IsValueHere, IsRootOf};
 
 use crate::builtin::Root;
 use crate::{Evaluated, Scope, Value};
@@ -9,9 +9,9 @@ use term::{Span, VARIABLE};
 
 impl<'a> Scope<'a> {
     // The value of a variable or a literal.
-    pub(crate) fn leaf(&self, at: usize) -> Evaluated
+    pub fn leaf(&self, at: usize) -> Evaluated
         requires { LeafHere self.now at }
-        ensures { EvaluateIs self.now at result }
+        ensures { LeafIs self.now at result }
     {
         if self.table[at] == VARIABLE {
             return Evaluated {
@@ -27,7 +27,7 @@ impl<'a> Scope<'a> {
     }
 
     // The root of a value.
-    pub(crate) fn root(&self, v: Value) -> Root
+    pub fn root(&self, v: Value) -> Root
         requires { IsValueHere self.now v }
         ensures { IsRootOf self.now v result }
     {

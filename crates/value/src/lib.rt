@@ -14,8 +14,8 @@ use term::{CALL, Span, VARIABLE};
 pub mod builtin; // the functions whose value is one node
 mod copy; // words written into a slice
 mod expression; // a call's value and its argument list
-mod leaf; // values that need no recursion
-mod lookup; // a value in a dictionary
+pub mod leaf; // values that need no recursion
+pub mod lookup; // a value in a dictionary
 mod rounding; // a quotient to the nearest
 mod same; // whether two values are the same
 mod search; // a key among a dictionary's entries

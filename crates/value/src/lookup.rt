@@ -9,7 +9,7 @@ use term::{DICTIONARY, Span, WHOLE};
 
 impl<'a> Scope<'a> {
     // The value of a lookup of a key in a dictionary, by their values; error if it has no such key, or if they are of another kind. A computed dictionary is empty.
-    pub(crate) fn lookup(&self, d: Value, k: Value) -> Value
+    pub fn lookup(&self, d: Value, k: Value) -> Value
         requires { IsValueHere self.now d × IsValueHere self.now k }
         ensures { LookupIs self.now d k result }
     {
@@ -31,7 +31,7 @@ impl<'a> Scope<'a> {
 }
 
 // Where the value at a key stands, in the dictionary that stands at a place; a term of another kind has none.
-fn find(s: &[i64], at: usize, key: i64) -> Option<Span>
+pub fn find(s: &[i64], at: usize, key: i64) -> Option<Span>
     requires { TermIn s.now at }
     ensures { FoundIs s.now at key result }
 {

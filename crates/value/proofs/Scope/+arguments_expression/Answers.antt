@@ -53,14 +53,14 @@ arguments-returns-then-self-at-eq-CALL t c =
 pub arguments-leaf-requires : goal.arguments-leaf-requires
 arguments-leaf-requires t c =
     let m = is_more c.args.self.now.table.now c.args.self.now.configuration.now c.args.self.now.places.now.starts c.args.self.now.places.now.ends c.args.at _ _ _ c.requires.have (sym c.if-not-wanted.false ∙ c.requires.some) in
-    record { expression = record { valuation = _; expression = m.expression; term = m.term; has = m.first }; tag = λ e. c.if-self-at-eq-CALL.false (ap (of_z w64) e) }
+    record { config = c.args.self.now.configuration.now; expression = record { valuation = _; expression = m.expression; term = m.term; has = m.first }; tag = λ e. c.if-self-at-eq-CALL.false (ap (of_z w64) e) }
 
 pub arguments-returns : goal.arguments-returns
 arguments-returns t c =
     record {
       meant = λ ρ es xs w n.
           let m = is_more c.args.self.now.table.now c.args.self.now.configuration.now c.args.self.now.places.now.starts c.args.self.now.places.now.ends c.args.at ρ es xs w (sym c.if-not-wanted.false ∙ n) in
-          some_first _ _ _ _ _ ρ es xs m _ (c.leaf.ensures.meant ρ m.expression m.term m.first);
+          some_first _ _ _ _ _ ρ es xs m _ ((c.leaf.ensures.over c.args.self.now.configuration.now).meant ρ m.expression m.term m.first);
     }
 
 -- ---- `expression`: its arguments one after the other

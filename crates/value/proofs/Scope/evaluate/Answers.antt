@@ -19,4 +19,4 @@ expression-requires c =
     record { expression = c.requires; tag = lit_pos _ 4 f.sfits (lit< tt) c.if-self-at-eq-CALL.true }
 
 pub leaf-requires : goal.leaf-requires
-leaf-requires c = record { expression = c.requires; tag = λ e. c.if-self-at-eq-CALL.false (ap (of_z w64) e) }
+leaf-requires c = record { config = c.args.self.now.configuration.now; expression = c.requires; tag = λ e. c.if-self-at-eq-CALL.false (ap (of_z w64) e) }
