@@ -57,7 +57,7 @@ fn checked(rt: &impl Print, what: &str, name: &[u8], check: Result<(), Refusal>)
     println!(rt; "")
 }
 
-// A call: the numbers of its line are its other arguments.
+// A call: the numbers of its line are its other arguments. The letter is the file's: an enum of calls would be made of it by the same match.
 fn run_call(rt: &impl Print, key: u8, name: &[u8], call: Call) -> io::Result<()> {
     rt.write_all(name)?;
     print!(rt; ": ")?;

@@ -20,7 +20,7 @@ pub struct RightSizes {
     pub leaves: usize,
 }
 
-// A place from its number, and the number of a place.
+// A place from its number, and the number of a place; no `From`, since a number counts from the first rule's place.
 pub(crate) fn place(number: u16) -> usize
     ensures { result ≡ number + first_rule }
 {

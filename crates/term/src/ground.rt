@@ -125,7 +125,7 @@ pub struct Reached {
 }
 
 // The walk over so many ground terms that start at a place, up to the first node that is not in range by its tag: a dictionary, or none of a ground term. A node's child count shows
-// in its tag.
+// in its tag. Not one function with `ground_mixed`, which would be no plainer: this one says where it stopped, that one that no terms stand there.
 pub fn tagged_terms(s: &[i64], at: usize, count: usize) -> Reached
     requires { (at ≤ length s.now) × (count ≤ max_children) }
     ensures { TaggedTermsAre s.now at count result }

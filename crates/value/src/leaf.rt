@@ -39,7 +39,7 @@ impl<'a> Scope<'a> {
     }
 }
 
-// The node that stands at a place.
+// The node that stands at a place: two words of many, so no conversion.
 #[tactic(auto, unfolding(crate::specs::Root::root_at))]
 pub fn root_at(s: &[i64], at: usize) -> Root
     requires { at + 1 < length s.now }
