@@ -4,69 +4,54 @@ ghost use Rattle.std.specs.Option.{is_some};
 ghost use Rattle.minuska.specs.Computed.Read.{max_children, plain_children};
 ghost use Rattle.term.specs.TermEnd.{tag_children, GroundNode, TaggedNode, TaggedTermsAre, GroundTermsAre, ground_terms_end};
 
-use crate::{DICTIONARY, MAX_ENTRIES, SYMBOLS};
+use crate::{DICTIONARY, MAX_ENTRIES, SYMBOLS, WHOLE};
 
 // How many tags there are, those of no node too.
 const TAGS: usize = 16;
 
-// The nodes of a ground term by tag: the least datum, the most, the child count. A tag that it has none of has an empty range.
+// The nodes of a ground term by tag: the bound of its data, which are the numbers below, and the child count. A tag that it has none of has no datum.
 // Columns, and not a list of rows: an entry is found with two instructions less. And no match by kinds: so no branch goes by the tag.
 struct Nodes {
-    least: [i64; TAGS],
-    most: [i64; TAGS],
+    bound: [u64; TAGS],
     children: [usize; TAGS],
 }
 
-// The most datum of a tag that no ground term has.
-const NO_VARIABLE: i64 = -1;
+// Read as a number without a sign, a word below 0 is above all bounds but this one, of a whole, which any word is but -1: that one is asked apart.
+const WHOLES: u64 = u64::MAX;
 
-const NO_CALL: i64 = -1;
+const ERRORS: u64 = 1;
 
-const NO_NODE: i64 = -1;
+const TRUTHS: u64 = 2;
+
+const NO_VARIABLE: u64 = 0;
+
+const NO_CALL: u64 = 0;
+
+const NO_NODE: u64 = 0;
 
 // A dictionary's: its datum counts its children, so that a walk looks at it apart.
-const ELSEWHERE: i64 = -1;
+const ELSEWHERE: u64 = 0;
 
-const LEAST_SYMBOL: i64 = 0;
-
-const MOST_SYMBOL: i64 = SYMBOLS - 1;
+const SYMBOL_DATA: u64 = SYMBOLS as u64;
 
 static NODES: Nodes = Nodes {
-    least: [
-        0,
-        0,
-        i64::MIN,
-        0,
-        0,
-        0,
-        0,
-        0,
-        LEAST_SYMBOL,
-        LEAST_SYMBOL,
-        LEAST_SYMBOL,
-        LEAST_SYMBOL,
-        LEAST_SYMBOL,
-        LEAST_SYMBOL,
-        LEAST_SYMBOL,
-        LEAST_SYMBOL,
-    ],
-    most: [
-        0,
-        1,
-        i64::MAX,
+    bound: [
+        ERRORS,
+        TRUTHS,
+        WHOLES,
         NO_VARIABLE,
         NO_CALL,
         ELSEWHERE,
         NO_NODE,
         NO_NODE,
-        MOST_SYMBOL,
-        MOST_SYMBOL,
-        MOST_SYMBOL,
-        MOST_SYMBOL,
-        MOST_SYMBOL,
-        MOST_SYMBOL,
-        MOST_SYMBOL,
-        MOST_SYMBOL,
+        SYMBOL_DATA,
+        SYMBOL_DATA,
+        SYMBOL_DATA,
+        SYMBOL_DATA,
+        SYMBOL_DATA,
+        SYMBOL_DATA,
+        SYMBOL_DATA,
+        SYMBOL_DATA,
     ],
     children: [0, 0, 0, 0, 0, 0, 0, 0, 0, 1, 2, 3, 4, 5, 6, 7],
 };
@@ -80,8 +65,11 @@ pub fn tagged_children(t: i64, d: i64) -> Option<usize>
     if TAGS <= tag {
         return None;
     }
-    if NODES.least[tag] <= d && d <= NODES.most[tag] {
+    if d.cast_unsigned() < NODES.bound[tag] {
         return Some(NODES.children[tag]);
+    }
+    if t == WHOLE {
+        return Some(0);
     }
     None
 }
