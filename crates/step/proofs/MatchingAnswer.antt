@@ -6,6 +6,7 @@ use mathlib.Core.Option.{none, some, some-injective, none-ne-some}
 use mathlib.Core.List.{List}
 use Prim.Native.Nat.{ℕ, zero, suc, ◌+◌, ◌*◌, ◌^◌, ◌<◌, ◌≤◌}
 use native.Mathlib.Omega.{arith}
+use native.Mathlib.Decide.{ℕ_discrete}
 use lib.Dec.{T, leb, leb→le}
 use lib.IntN.{ℤ}
 use lib.ListN.{length, get_or, replicate, set}
@@ -110,16 +111,26 @@ held w v z = let x = has_part w.walk v z in (x.0, w.walk.binds.places v x.0 x.1)
 put_set : (xs : List ℕ) (v x : ℕ) → v < length xs → Put xs (set xs v x) v x
 put_set xs v x h = record { here = get_or-set_same xs v x 0 h; others = λ u f. get_or-set_other xs v u x 0 f }
 
+-- where its end is 0 after a number above 0 was put, the start is another's
+kept : (starts ends : List ℕ) (v j e : ℕ) (first : List ℕ) → v < length ends → 0 < e → ((u : ℕ) → get_or ends u 0 ≡ 0 → get_or starts u 0 ≡ get_or first u 0) → (u : ℕ) → get_or (set ends v e) u 0 ≡ 0 → get_or (set starts v j) u 0 ≡ get_or first u 0
+kept starts ends v j e first h much keeps u z = pick (ℕ_discrete u v)
+  where
+    pick : Dec (u ≡ v) → get_or (set starts v j) u 0 ≡ get_or first u 0
+    pick (yes p) = absurd (let q : e ≡ 0 = sym (get_or-set_same ends v e 0 h) ∙ (ap (λ (w : ℕ). get_or (set ends v e) w 0) (sym p) ∙ z) in let f : ⊥ = omega arith in f)
+    pick (no f) = get_or-set_other starts v u j 0 f ∙ keeps u (sym (get_or-set_other ends v u e 0 f) ∙ z)
+
 -- ---- a turn of the loop
-module _ (table : List ℤ) (at end : ℕ) (config : List ℤ) where
-  -- so many nodes are passed: of every left and configuration that stand there, the walk is where `Walking` says
+module _ (table : List ℤ) (at end : ℕ) (config : List ℤ) (first : List ℕ) where
+  -- so many nodes are passed: of every left and configuration that stand there, the walk is where `Walking` says; a start keeps where the end is 0
   pub record MatchingAt (i j : ℕ) (starts ends : List ℕ) : Type 0 where
     pub passed : ℕ
     pub far : i ≡ at + 2 * passed
     pub walking : (l g : Term) → IsLeft table at end l → IsConfiguration config g → Walking table end config passed i j starts ends (comparison l g)
+    pub keeps : (v : ℕ) → get_or ends v 0 ≡ 0 → get_or starts v 0 ≡ get_or first v 0
 
-  pub matching_first : (starts ends : List ℕ) → ends ≡ replicate 16 0 → MatchingAt at 0 starts ends
-  matching_first starts ends e = record { passed = 0; far = omega arith; walking = λ l g x y. subst⁻¹ (λ (xs : List ℕ). Walking table end config 0 at 0 starts xs (comparison l g)) e (begins starts x y) }
+  pub matching_first : (starts ends : List ℕ) → ends ≡ replicate 16 0 → starts ≡ first → MatchingAt at 0 starts ends
+  matching_first starts ends e f =
+      record { passed = 0; far = omega arith; walking = λ l g x y. subst⁻¹ (λ (xs : List ℕ). Walking table end config 0 at 0 starts xs (comparison l g)) e (begins starts x y); keeps = λ v z. ap (λ (xs : List ℕ). get_or xs v 0) f }
 
   module _ {i j : ℕ} {starts ends : List ℕ} (m : MatchingAt i j starts ends) where
     module _ (x : LeftIn table at end) (y : Accepted config) where
@@ -129,8 +140,8 @@ module _ (table : List ℤ) (at end : ℕ) (config : List ℤ) where
       pub matching_parts : (v : ℕ) → (get_or ends v 0 ≡ 0 → ⊥) → (t : Term) × BoundAt config (get_or starts v 0) (get_or ends v 0) v t
       matching_parts = held here
 
-      pub matched_all : end ≤ i → MatchContract table at end config starts ends (Ok tt)
-      matched_all h = record { each = λ l g a b. all_matched a b h (m.walking l g a b); parts = matching_parts }
+      pub matched_all : end ≤ i → MatchContract table at end config first starts ends (Ok tt)
+      matched_all h = record { each = λ l g a b. all_matched a b h (m.walking l g a b); parts = matching_parts; keeps = m.keeps }
 
       module _ (before : i < end) where
         pub matching_from : TurnFrom table i end config j starts ends
@@ -147,18 +158,20 @@ module _ (table : List ℤ) (at end : ℕ) (config : List ℤ) where
     module _ (before : i < end) where
       module _ {j' : ℕ} {turn : LeftTurn} (t : LeftTurned table i end config j starts ends (Some turn)) where
         pub matching_on : ((n : ℕ) (o : Comparison) → After table end config n i j starts ends o (Some turn) → Walking table end config (n + 1) (i + 2) j' starts ends o) → MatchingAt (i + 2) j' starts ends
-        matching_on go = record { passed = m.passed + 1; far = omega (arith, m.far); walking = λ l g a b. go m.passed (comparison l g) (t.after m.passed (comparison l g) before (m.walking l g a b)) }
+        matching_on go = record { passed = m.passed + 1; far = omega (arith, m.far); walking = λ l g a b. go m.passed (comparison l g) (t.after m.passed (comparison l g) before (m.walking l g a b)); keeps = m.keeps }
 
       pub matching_bind : length starts ≡ 16 → length ends ≡ 16 → LeftIn table at end → Accepted config → {v e : ℕ} → LeftTurned table i end config j starts ends (Some (Bind v e)) → MatchingAt (i + 2) e (set starts v j) (set ends v e)
       matching_bind long wide x y {v} {e} t =
           let low = (bind_fits x y before t).0 in
+          let some = (t.after m.passed (comparison x.left y.term) before (here x y)).1 in
           record {
             passed = m.passed + 1;
             far = omega (arith, m.far);
             walking = λ l g a b. (t.after m.passed (comparison l g) before (m.walking l g a b)).3 (set starts v j) (set ends v e) (put_set starts v j (omega arith)) (put_set ends v e (omega arith));
+            keeps = kept starts ends v j e first (omega arith) some m.keeps;
           }
 
-      pub matched_until : (x : LeftIn table at end) → Accepted config → LeftTurned table i end config j starts ends None → {n : ℕ} → n ≡ m.passed → MatchContract table at end config starts ends (Err n)
+      pub matched_until : (x : LeftIn table at end) → Accepted config → LeftTurned table i end config j starts ends None → {n : ℕ} → n ≡ m.passed → MatchContract table at end config first starts ends (Err n)
       matched_until x y t e =
-          subst⁻¹ (λ (k : ℕ). MatchContract table at end config starts ends (Err k)) e
-          (record { each = λ l g a b. not_matched a b (t.after m.passed (comparison l g) before (m.walking l g a b)); parts = matching_parts x y })
+          subst⁻¹ (λ (k : ℕ). MatchContract table at end config first starts ends (Err k)) e
+          (record { each = λ l g a b. not_matched a b (t.after m.passed (comparison l g) before (m.walking l g a b)); parts = matching_parts x y; keeps = m.keeps })

@@ -2,6 +2,7 @@
 use Rattle.std.specs.Prelude.{Some, None}
 use mathlib.Core.Path.{◌≡◌, refl, sym, ◌∙◌, ap, subst, subst⁻¹, subst₂}
 use mathlib.Core.Bool.{Bool, true, false, cond}
+use mathlib.Core.Logic.{⊎_elim}
 use mathlib.Core.Option.{Option, none, some, some-injective, none-ne-some}
 use mathlib.Core.List.{List, [], ◌∷◌}
 use Prim.Native.Nat.{ℕ, ◌+◌, ◌-◌, ◌<◌, ◌≤◌}
@@ -30,7 +31,9 @@ use Rattle.minuska.proofs.WordLaw.{okay, head_okay, childless}
 use Rattle.minuska.proofs.Bridge.PlaceLaw.{stands_second, stands_unique}
 use Rattle.minuska.proofs.Bridge.AppendedLaw.{first_words, labels}
 use Rattle.minuska.specs.Computed.Compare.{Comparison, apart, later, after, compare_bound, compare}
-use Rattle.step.specs.Matching.{Walk, Walking, TurnFrom, Put, LeftTurned}
+use Rattle.std.proofs.lemmas.Bool.{cases_lt}
+use Rattle.term.specs.declared.Span.{Span}
+use Rattle.step.specs.Matching.{Recurs, Walk, Walking, TurnFrom, Put, LeftTurned}
 use Rattle.step.specs.declared.matching.LeftTurn.TheVariants.{Bind, Again}
 use Rattle.minuska.proofs.CompareLaw.{later_later}
 use Rattle.step.proofs.MatchingLaw.{word, same_word, has_part, heads, left_tag, left_datum, words_here, good_here, term_at_lem}
@@ -203,6 +206,17 @@ module _ {table : List ℤ} {i end : ℕ} {config : List ℤ} {j : ℕ} {starts 
         let y = b.stands.within in
         let q = b.ends in
         (omega arith, omega arith)
+
+  -- a part that a variable has, and its words looked for at the walk's place
+  module _ {span : Span} (is : span ≡ record { from = get_or starts v 0; to = get_or ends v 0 }) (bound : get_or ends v 0 ≡ 0 → ⊥) where
+    pub part_there : TurnFrom table i end config j starts ends → (span.from ≤ span.to) × (span.to ≤ length config)
+    part_there = part_within (ap (λ (s : Span). s.from) is) (ap (λ (s : Span). s.to) is) (λ q. bound (sym (ap (λ (s : Span). s.to) is) ∙ q))
+
+    pub turned_found : {e : ℕ} → Recurs config span.from span.to j (Some e) → LeftTurned table i end config j starts ends (Some (Again e))
+    turned_found r = turned_again (ap (λ (s : Span). s.from) is) (ap (λ (s : Span). s.to) is) (λ q. bound (sym (ap (λ (s : Span). s.to) is) ∙ q)) r.again.0 r.again.1 r.again.2
+
+    pub turned_unfound : Recurs config span.from span.to j None → LeftTurned table i end config j starts ends None
+    turned_unfound r = ⊎_elim (turned_long (ap (λ (s : Span). s.from) is) (ap (λ (s : Span). s.to) is) (λ q. bound (sym (ap (λ (s : Span). s.to) is) ∙ q)) refl) (λ h. turned_differs (ap (λ (s : Span). s.from) is) (ap (λ (s : Span). s.to) is) (λ q. bound (sym (ap (λ (s : Span). s.to) is) ∙ q)) refl (r.other h)) (cases_lt (length config) (j + (span.to - span.from)))
 
   -- the variable's number is below 16
   pub number_fits : TurnFrom table i end config j starts ends → T (non_neg (word table (i + 1))) × (v < variables)

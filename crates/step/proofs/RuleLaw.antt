@@ -50,8 +50,8 @@ module _ (ws : List ℤ) (n : ℕ) where
     pub left_in : Names ws n → LeftIn ws from to
     left_in a = record { left = a.rule.left; is = is_left a.table a.rule a.is a.numbered }
 
-    pub match_is : (cs : List ℤ) (starts' ends' : List ℕ) (r : Result (Unit {0}) ℕ) → MatchContract ws from to cs starts' ends' r → MatchIs ws cs n starts' ends' r
-    match_is cs starts' ends' r m =
+    pub match_is : (cs : List ℤ) (starts starts' ends' : List ℕ) (r : Result (Unit {0}) ℕ) → MatchContract ws from to cs starts starts' ends' r → MatchIs ws cs n starts' ends' r
+    match_is cs starts starts' ends' r m =
         record {
           answer = λ rule g a. (m.each rule.left g (is_left a.table rule a.is a.numbered) a.configuration).answer;
           binds = λ rule g ρ a e. (m.each rule.left g (is_left a.table rule a.is a.numbered) a.configuration).binds ρ e;

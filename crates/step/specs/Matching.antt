@@ -1,5 +1,5 @@
 -- Matching a left against a configuration in one walk over both: what the routines take for granted, and what they answer.
-use Rattle.std.specs.Prelude.{◌≡◌, ◌↔◌, List, ℕ, ◌+◌, ◌<◌, ◌≤◌, ℤ, T, length, get_or, Result, Ok, Err, Option, Some, None}
+use Rattle.std.specs.Prelude.{◌≡◌, ◌↔◌, List, ℕ, ◌+◌, ◌-◌, ◌<◌, ◌≤◌, ℤ, T, length, get_or, Result, Ok, Err, Option, Some, None, IfSome, IfNone}
 use Rattle.std.proofs.Math.Option.{none, some}
 use Rattle.minuska.specs.Term.{Forest, Term, single, term_count, is_ground}
 use Rattle.minuska.specs.Word.{ok, encode}
@@ -7,7 +7,7 @@ use Rattle.minuska.specs.Satisfaction.{Valuation, Matches}
 use Rattle.minuska.specs.Rule.{is_symbolic, IsConfiguration}
 use Rattle.minuska.specs.Computed.Match.{unbound, try_match}
 use Rattle.minuska.specs.Computed.Compare.{Comparison, agreed, apart, later, compare, comparison}
-use Rattle.minuska.specs.Bridge.Place.{Stands, BoundAt, Binds}
+use Rattle.minuska.specs.Bridge.Place.{part, Stands, BoundAt, Binds}
 use Rattle.step.specs.declared.matching.LeftTurn.{LeftTurn}
 use Rattle.step.specs.declared.matching.LeftTurn.TheVariants.{Same, Bind, Again}
 
@@ -36,10 +36,16 @@ pub record LeftMatched (config : List ℤ) (l g : Term) (starts' ends' : List �
   pub free : (ρ : Valuation) → try_match (single l) (single g) unbound ≡ some ρ → (v : ℕ) → ρ v ≡ none → get_or ends' v 0 ≡ 0
 
 -- THE CONTRACT, for every left and configuration that stand there. What the arrays held does not matter. After either answer a term of the
--- configuration stands where an end is not 0.
-pub record MatchContract (table : List ℤ) (at end : ℕ) (config : List ℤ) (starts' ends' : List ℕ) (r : Result (Unit {0}) ℕ) : Type 0 where
+-- configuration stands where an end is not 0; where it is 0 the start keeps.
+pub record MatchContract (table : List ℤ) (at end : ℕ) (config : List ℤ) (starts starts' ends' : List ℕ) (r : Result (Unit {0}) ℕ) : Type 0 where
   pub each : (l g : Term) → IsLeft table at end l → IsConfiguration config g → LeftMatched config l g starts' ends' r
   pub parts : (v : ℕ) → (get_or ends' v 0 ≡ 0 → ⊥) → (t : Term) × BoundAt config (get_or starts' v 0) (get_or ends' v 0) v t
+  pub keeps : (v : ℕ) → get_or ends' v 0 ≡ 0 → get_or starts' v 0 ≡ get_or starts v 0
+
+-- The words of a part that stand at a place too: the place behind them; none where other words stand, or too few.
+pub record Recurs (config : List ℤ) (from to at : ℕ) (r : Option ℕ) : Type 0 where
+  pub again : IfSome r (λ e. (e ≡ at + (to - from)) × (e ≤ length config) × (part config from to ≡ part config at e))
+  pub other : IfNone r (at + (to - from) ≤ length config → part config from to ≡ part config at (at + (to - from)) → ⊥)
 
 -- The walk has come behind n of the left's nodes, to word i of the table and word j of the configuration. There stand the rest of the left, f, and the rest
 -- of the configuration, g, as many terms, each up to its end; σ, which the arrays hold, binds the variables met; and the comparison of the rest is the

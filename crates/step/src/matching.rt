@@ -1,6 +1,6 @@
 // Matching a left against a configuration, in one walk over both.
-ghost use Rattle.std.specs.Prelude.{◌≡◌};
-ghost use Rattle.step.specs.Matching.{LeftIn, MatchContract, TurnFrom, LeftTurned};
+ghost use Rattle.std.specs.Prelude.{◌≡◌, ◌≤◌, length};
+ghost use Rattle.step.specs.Matching.{LeftIn, MatchContract, TurnFrom, LeftTurned, Recurs};
 
 use term::Span;
 use term::configuration::Configuration;
@@ -45,16 +45,21 @@ fn turn_at(
         }
         return Some(LeftTurn::Bind(v, term::ground_end(configuration, j)));
     };
-    let to = j + (part.to - part.from);
-    if configuration.len() < to {
+    let to = recurs(configuration, part, j)?;
+    Some(LeftTurn::Again(to))
+}
+
+// Whether the words of a part stand at a place again: the place behind them. Not inlined, so that the walk keeps its registers for the nodes that are no variable's.
+#[inline(never)]
+fn recurs(words: &[i64], part: Span, at: usize) -> Option<usize>
+    requires { (part.from ≤ part.to) × (part.to ≤ length words.now) × (at ≤ length words.now) }
+    ensures { Recurs words.now part.from part.to at result }
+{
+    let to = at + (part.to - part.from);
+    if words.len() < to {
         return None;
     }
-    let same = words::same(&configuration[part.from..part.to], &configuration[j..to]);
-    if same {
-        Some(LeftTurn::Again(to))
-    } else {
-        None
-    }
+    words::same(&words[part.from..part.to], &words[at..to]).then_some(to)
 }
 
 // Matches a left against the whole configuration, up to the first of its nodes that disagrees: its place, from 0 in preorder. The parts of its variables go to places.
@@ -65,7 +70,7 @@ pub fn match_left(
     places: &mut Places,
 ) -> Result<(), usize>
     requires { LeftIn table.now left.from left.to }
-    ensures { MatchContract table.now left.from left.to configuration.entry.words.now places.new.starts places.new.ends result }
+    ensures { MatchContract table.now left.from left.to configuration.entry.words.now places.old.starts places.new.starts places.new.ends result }
 {
     places.clear();
     let words = configuration.words;

@@ -27,7 +27,8 @@ impl Places {
 
     // The same of places that were used before.
     pub fn clear(&mut self)
-        ensures { self.new.ends ≡ replicate variables 0 }
+        ensures ends { self.new.ends ≡ replicate variables 0 }
+        ensures starts { self.new.starts ≡ self.old.starts }
     {
         self.ends = [0; VARIABLES];
     }

@@ -1,11 +1,12 @@
 -- Each answer is one lemma of `MatchingLaw` or `MatchingVariable` at the words that are read.
-use Rattle.std.proofs.Common.{◌+◌, pos, rules, arith, w64, FitsSigned, get_or, sym, ◌∙◌, ap, of_z, refl}
+use Rattle.std.proofs.lemmas.Grind.{common_steps}
+use Rattle.std.proofs.Common.{◌≡◌, None, ◌+◌, pos, rules, arith, w64, FitsSigned, get_or, sym, ◌∙◌, ap, of_z, refl}
 use mathlib.Core.Path.{subst⁻¹}
 use Rattle.std.proofs.lemmas.Int.{to_z-of_z}
 use lib.Dec.{T}
 use lib.Signed.{non_neg}
 use Rattle.step.proofs.MatchingLaw.{same_word, room, ground_at_lem, last_ends, turned_same, turned_other}
-use Rattle.step.proofs.MatchingVariable.{tag_three, number_read, number_fits, part_within, turned_bind, turned_again, turned_differs, turned_long}
+use Rattle.step.proofs.MatchingVariable.{tag_three, number_read, number_fits, part_there, turned_bind, turned_found, turned_unfound}
 use Rattle.step.proofs.matching.turn_at.Goals as goal
 use Rattle.step.proofs.matching.turn_at.Goals.{then-tag-configuration-via-then-tag-configuration, then-tag-configuration-via-else-tag-configuration+then-datum-configuration}
 
@@ -65,80 +66,22 @@ returns-in_default c =
     let d : FitsSigned w64 (get_or c.args.table.now (c.args.i + 1) (pos 0)) = search rules in
     turned_bind (tag_three t c.if-tag-ne-VARIABLE.false) (number_read d) (sym (c.in_default.ensures.unbound.0 refl)) refl c.ground_end.ensures
 
-pub overflow_sub-to : goal.overflow_sub-to
-overflow_sub-to c =
+pub recurs-requires : goal.recurs-requires
+recurs-requires c =
     let t : FitsSigned w64 (get_or c.args.table.now c.args.i (pos 0)) = search rules in
     let d : FitsSigned w64 (get_or c.args.table.now (c.args.i + 1) (pos 0)) = search rules in
-    let b = ap (λ s. s.from) c.in-Some.ensures.bound in
-    let e = ap (λ s. s.to) c.in-Some.ensures.bound in
-    let w = part_within (tag_three t c.if-tag-ne-VARIABLE.false) (number_read d) b e (λ q. let h = c.in-Some.ensures.unbound.1 (sym e ∙ q) in cc) c.requires in
-    w.0
+    let w = part_there (tag_three t c.if-tag-ne-VARIABLE.false) (number_read d) c.in-Some.ensures.bound (λ q. let h = c.in-Some.ensures.unbound.1 q in cc) c.requires in
+    (w.0, w.1, omega (arith, (room c.requires).grounded))
 
-pub overflow_add-to : goal.overflow_add-to
-overflow_add-to c =
+pub returns-in_err-to : goal.returns-in_err-to
+returns-in_err-to c =
     let t : FitsSigned w64 (get_or c.args.table.now c.args.i (pos 0)) = search rules in
     let d : FitsSigned w64 (get_or c.args.table.now (c.args.i + 1) (pos 0)) = search rules in
-    let b = ap (λ s. s.from) c.in-Some.ensures.bound in
-    let e = ap (λ s. s.to) c.in-Some.ensures.bound in
-    let w = part_within (tag_three t c.if-tag-ne-VARIABLE.false) (number_read d) b e (λ q. let h = c.in-Some.ensures.unbound.1 (sym e ∙ q) in cc) c.requires in
-    record { fits = omega (arith, w.0, w.1, (room c.requires).grounded, c.well_formed) }
+    let e : c.from_residual.result ≡ None = grind (arith, common_steps) in
+    rw e (turned_unfound (tag_three t c.if-tag-ne-VARIABLE.false) (number_read d) c.in-Some.ensures.bound (λ q. let h = c.in-Some.ensures.unbound.1 q in cc) c.in_err-to.ensures)
 
-pub offset_bounds-configuration-part : goal.offset_bounds-configuration-part
-offset_bounds-configuration-part c =
+pub returns : goal.returns
+returns c =
     let t : FitsSigned w64 (get_or c.args.table.now c.args.i (pos 0)) = search rules in
     let d : FitsSigned w64 (get_or c.args.table.now (c.args.i + 1) (pos 0)) = search rules in
-    let b = ap (λ s. s.from) c.in-Some.ensures.bound in
-    let e = ap (λ s. s.to) c.in-Some.ensures.bound in
-    let w = part_within (tag_three t c.if-tag-ne-VARIABLE.false) (number_read d) b e (λ q. let h = c.in-Some.ensures.unbound.1 (sym e ∙ q) in cc) c.requires in
-    record { fits = omega (arith, w.0, w.1, c.well_formed) }
-
-pub slice_bounds-same-count : goal.slice_bounds-same-count
-slice_bounds-same-count c =
-    let t : FitsSigned w64 (get_or c.args.table.now c.args.i (pos 0)) = search rules in
-    let d : FitsSigned w64 (get_or c.args.table.now (c.args.i + 1) (pos 0)) = search rules in
-    let b = ap (λ s. s.from) c.in-Some.ensures.bound in
-    let e = ap (λ s. s.to) c.in-Some.ensures.bound in
-    let w = part_within (tag_three t c.if-tag-ne-VARIABLE.false) (number_read d) b e (λ q. let h = c.in-Some.ensures.unbound.1 (sym e ∙ q) in cc) c.requires in
-    w.0
-
-pub slice_bounds-same-start : goal.slice_bounds-same-start
-slice_bounds-same-start c =
-    let t : FitsSigned w64 (get_or c.args.table.now c.args.i (pos 0)) = search rules in
-    let d : FitsSigned w64 (get_or c.args.table.now (c.args.i + 1) (pos 0)) = search rules in
-    let b = ap (λ s. s.from) c.in-Some.ensures.bound in
-    let e = ap (λ s. s.to) c.in-Some.ensures.bound in
-    let w = part_within (tag_three t c.if-tag-ne-VARIABLE.false) (number_read d) b e (λ q. let h = c.in-Some.ensures.unbound.1 (sym e ∙ q) in cc) c.requires in
-    w.0
-
-pub slice_bounds-same-end : goal.slice_bounds-same-end
-slice_bounds-same-end c =
-    let t : FitsSigned w64 (get_or c.args.table.now c.args.i (pos 0)) = search rules in
-    let d : FitsSigned w64 (get_or c.args.table.now (c.args.i + 1) (pos 0)) = search rules in
-    let b = ap (λ s. s.from) c.in-Some.ensures.bound in
-    let e = ap (λ s. s.to) c.in-Some.ensures.bound in
-    let w = part_within (tag_three t c.if-tag-ne-VARIABLE.false) (number_read d) b e (λ q. let h = c.in-Some.ensures.unbound.1 (sym e ∙ q) in cc) c.requires in
-    w.1
-
-pub returns-then-configuration-to : goal.returns-then-configuration-to
-returns-then-configuration-to c =
-    let t : FitsSigned w64 (get_or c.args.table.now c.args.i (pos 0)) = search rules in
-    let d : FitsSigned w64 (get_or c.args.table.now (c.args.i + 1) (pos 0)) = search rules in
-    let b = ap (λ s. s.from) c.in-Some.ensures.bound in
-    let e = ap (λ s. s.to) c.in-Some.ensures.bound in
-    turned_long (tag_three t c.if-tag-ne-VARIABLE.false) (number_read d) b e (λ q. let h = c.in-Some.ensures.unbound.1 (sym e ∙ q) in cc) refl c.if-configuration-to.true
-
-pub returns-then-same : goal.returns-then-same
-returns-then-same c =
-    let t : FitsSigned w64 (get_or c.args.table.now c.args.i (pos 0)) = search rules in
-    let d : FitsSigned w64 (get_or c.args.table.now (c.args.i + 1) (pos 0)) = search rules in
-    let b = ap (λ s. s.from) c.in-Some.ensures.bound in
-    let e = ap (λ s. s.to) c.in-Some.ensures.bound in
-    turned_again (tag_three t c.if-tag-ne-VARIABLE.false) (number_read d) b e (λ q. let h = c.in-Some.ensures.unbound.1 (sym e ∙ q) in cc) refl c.if-configuration-to.false (c.same-same.ensures.yes c.if-same.true)
-
-pub returns-else-same : goal.returns-else-same
-returns-else-same c =
-    let t : FitsSigned w64 (get_or c.args.table.now c.args.i (pos 0)) = search rules in
-    let d : FitsSigned w64 (get_or c.args.table.now (c.args.i + 1) (pos 0)) = search rules in
-    let b = ap (λ s. s.from) c.in-Some.ensures.bound in
-    let e = ap (λ s. s.to) c.in-Some.ensures.bound in
-    turned_differs (tag_three t c.if-tag-ne-VARIABLE.false) (number_read d) b e (λ q. let h = c.in-Some.ensures.unbound.1 (sym e ∙ q) in cc) refl (c.same-same.ensures.no c.if-same.false)
+    turned_found (tag_three t c.if-tag-ne-VARIABLE.false) (number_read d) c.in-Some.ensures.bound (λ q. let h = c.in-Some.ensures.unbound.1 q in cc) c.in_ok-to.ensures

@@ -5,4 +5,4 @@ pub match_left-requires : goal.match_left-requires
 match_left-requires c = left_in _ _ _ _ c.left-left.ensures c.requires
 
 pub returns : goal.returns
-returns c = match_is _ _ _ _ c.left-left.ensures _ _ _ _ c.match_left.ensures
+returns c = match_is _ _ _ _ c.left-left.ensures _ _ _ _ _ c.match_left.ensures
