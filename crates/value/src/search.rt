@@ -14,13 +14,11 @@ pub fn search(s: &[i64], at: usize, n: usize, key: i64) -> Result<Span, usize>
         if key < here {
             return Err(i);
         }
+        let to = term::ground_end(s, i + 2);
         if key == here {
-            return Ok(Span {
-                from: i,
-                to: term::ground_end(s, i + 2),
-            });
+            return Ok(Span { from: i, to });
         }
-        i = term::ground_end(s, i + 2);
+        i = to;
     }
     Err(i)
 }

@@ -40,13 +40,8 @@ overflow_add-i c =
     let r = search_room h c.requires (omega arith) in
     omega arith
 
-pub ground_end-requires : goal.ground_end-requires
-ground_end-requires c =
-    let h : Searching c.args.s.now c.args.at c.args.n c.args.key c.loop.i (c.args.n - c.loop.counter) = rw (to_z-of_z c.ranges.key) at c.loop.invariant in
-    search_value h c.requires (omega arith)
-
-pub ground_end-i-requires : goal.ground_end-i-requires
-ground_end-i-requires c =
+pub ground_end-to-requires : goal.ground_end-to-requires
+ground_end-to-requires c =
     let h : Searching c.args.s.now c.args.at c.args.n c.args.key c.loop.i (c.args.n - c.loop.counter) = rw (to_z-of_z c.ranges.key) at c.loop.invariant in
     search_value h c.requires (omega arith)
 
@@ -54,7 +49,7 @@ pub returns-then-key-here-2 : goal.returns-then-key-here-2
 returns-then-key-here-2 c =
     let f : SFits w64 (get_or c.args.s.now (c.loop.i + 1) (pos 0)) = search rules in
     let h : Searching c.args.s.now c.args.at c.args.n c.args.key c.loop.i (c.args.n - c.loop.counter) = rw (to_z-of_z c.ranges.key) at c.loop.invariant in
-    search_here h c.requires (omega arith) _ refl c.ground_end.result c.ground_end.ensures (word_is _ _ c.ranges.key f c.if-key-here-2.true)
+    search_here h c.requires (omega arith) _ refl c.ground_end-to.result c.ground_end-to.ensures (word_is _ _ c.ranges.key f c.if-key-here-2.true)
 
 pub loop-preserved : goal.loop-preserved
 loop-preserved c =
@@ -62,8 +57,8 @@ loop-preserved c =
     let h : Searching c.args.s.now c.args.at c.args.n c.args.key c.loop.i (c.args.n - c.loop.counter) = rw (to_z-of_z c.ranges.key) at c.loop.invariant in
     let n : c.args.n - c.loop.counter - 1 ≡ c.args.n - (c.loop.counter + 1) = omega arith in
     rw (to_z-of_z c.ranges.key)
-    (subst (λ (m : ℕ). Searching c.args.s.now c.args.at c.args.n c.args.key c.ground_end-i.result m) n
-    (search_on h c.requires (omega arith) _ refl c.ground_end-i.result c.ground_end-i.ensures (rw (to_z-of_z c.ranges.key, to_z-of_z f) at c.if-key-here.false) (word_not _ _ c.ranges.key f c.if-key-here-2.false)))
+    (subst (λ (m : ℕ). Searching c.args.s.now c.args.at c.args.n c.args.key c.ground_end-to.result m) n
+    (search_on h c.requires (omega arith) _ refl c.ground_end-to.result c.ground_end-to.ensures (rw (to_z-of_z c.ranges.key, to_z-of_z f) at c.if-key-here.false) (word_not _ _ c.ranges.key f c.if-key-here-2.false)))
 
 pub returns : goal.returns
 returns c =
