@@ -1,5 +1,5 @@
 // One number at a place of a line.
-ghost use Rattle.std.specs.Prelude.{◌≡◌, ◌≤◌, length, drop};
+ghost use Rattle.std.specs.Prelude.{◌≡◌, drop};
 ghost use Rattle.decimal.specs.Computed.Number.{digit_of, digits_from, natural_from, signed_from, is_end};
 ghost use Rattle.decimal.specs.Number.{NumberContract};
 
@@ -25,7 +25,6 @@ fn digit_of(byte: u8) -> Option<u64>
 // The digits at a place, behind a number that was read, and their end. What would leave 64 bits is no number.
 #[tactic(auto, using(crate::proofs::NumberTurn::digits_at, crate::proofs::NumberTurn::digits_end))]
 fn digits_from(line: &[u8], at: usize, first: u64) -> Option<(u64, usize)>
-    requires { at ≤ length line.now }
     ensures { result ≡ digits_from first at (drop at line.now) }
 {
     let mut value = first;
@@ -35,7 +34,7 @@ fn digits_from(line: &[u8], at: usize, first: u64) -> Option<(u64, usize)>
         };
         value = value.checked_mul(10)?.checked_add(digit)?;
     }
-    Some((value, line.len()))
+    Some((value, at.max(line.len())))
 }
 
 // A zero by itself, or digits that do not begin with one.

@@ -13,7 +13,7 @@ use Rattle.minuska.specs.Term.{Term}
 use Rattle.minuska.specs.Word.{datum_word}
 use Rattle.minuska.specs.Rule.{Rule, Table, IsTable}
 use Rattle.minuska.specs.Computed.Step.{order}
-use Rattle.minuska.specs.Bridge.Place.{key_of, remainder, root_key, RootMeets, Indexed, OrderedIs, Positions, KeysDiffer, RootKeyIs, RootsPassed, SeekIs, Accepted}
+use Rattle.minuska.specs.Bridge.Place.{key_of, remainder, root_key, RootMeets, Indexed, OrderedIs, Positions, KeysDiffer, RootsPassed, SeekIs}
 use Rattle.table.proofs.IndexLaw.{row_at}
 use Rattle.minuska.proofs.Bridge.PositionLaw.{element_at, few_rules, order_names}
 use Rattle.minuska.specs.declared.Row.{Row}
@@ -40,13 +40,6 @@ variable_key d = refl
 root_keys : (l g : Term) → (root_key l ≡ 0 → ⊥) → (root_key l ≡ root_key g → ⊥) → RootMeets l g → ⊥
 root_keys l g f h (inl e) = f (ap (λ (t : ℤ). key_of t (datum_word l.label)) e ∙ variable_key (datum_word l.label))
 root_keys l g f h (inr e) = h (ap₂ key_of e.0 e.1)
-
--- the configuration has a root
-pub root_there : {cs : List ℤ} → Accepted cs → 2 ≤ length cs
-root_there a = omega (arith, ap length a.is.words)
-
-pub root_key_lem : {cs : List ℤ} {root : ℕ} → root ≡ key_of (get_or cs 0 (pos 0)) (get_or cs 1 (pos 0)) → RootKeyIs cs root
-root_key_lem e = record { is = λ g q. e ∙ ap (λ (c : List ℤ). key_of (get_or c 0 (pos 0)) (get_or c 1 (pos 0))) (sym q.words) }
 
 module _ (ws : List ℤ) (index : List Row) (x : Indexed ws index) where
   -- a position names a rule

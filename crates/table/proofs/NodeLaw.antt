@@ -23,7 +23,7 @@ use Rattle.minuska.specs.Word.{variables, symbols, ok_head, tag_word, datum_word
 use Rattle.term.specs.TermAt.{NodeWords}
 use Rattle.term.specs.TermEnd.{any_label, tagged_label, children_if, children_of, tag_children, TaggedNode}
 use Rattle.table.specs.Number.{answered}
-use Rattle.table.specs.Node.{Kind, a_variable, a_call, plain, literal, kind, node_as, node_in, node_of, takes_call, takes_variable, admit_node, admitted, plain_functions, known_functions, Simple, Known, NodeAt, FoundAt}
+use Rattle.table.specs.Node.{Kind, a_variable, a_call, plain, literal, kind, node_as, node_in, node_of, takes_call, takes_variable, admit_node, admitted, plain_functions, known_functions, Simple, Known, NodeAt}
 use Rattle.table.specs.Level.{Level, Expression}
 use Rattle.table.specs.Below as B
 use Rattle.table.specs.declared.node.Node.{Node}
@@ -290,12 +290,3 @@ module _ {ws : List ℤ} {i : ℕ} where
 
   pub number_small : {v : ℕ} → NodeAt ws i (N.Variable v) → v < variables
   number_small {v} h = words_small (get_or ws i (pos 0)) (get_or ws (i + 1) (pos 0)) v h.is
-
--- what the two words at a place say, if there are two
-module _ (mixed : Bool) (ws : List ℤ) (i : ℕ) where
-  pub found_at : (r : S.Option Node) → i + 2 ≤ length ws → Known mixed (get_or ws i (pos 0)) (get_or ws (i + 1) (pos 0)) r → FoundAt mixed ws i r
-  found_at (Some n) h k = record { node = record { room = h; is = k.0 }; simple = k.1 }
-  found_at None h k = record { none = λ m. record { none = λ r. k m } }
-
-  pub none_left : length ws < i + 2 → FoundAt mixed ws i None
-  none_left h = record { none = λ m. record { none = λ r. absurd (let f : ⊥ = omega arith in f) } }

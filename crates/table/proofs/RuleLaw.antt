@@ -26,6 +26,7 @@ use Rattle.std.specs.Prelude as S
 use Rattle.table.specs.Number.{answered}
 use Rattle.table.specs.Walk.{part_end, part_seen}
 use Rattle.table.specs.Size.{Counts, SidePartContract}
+use Rattle.table.specs.declared.index.RightSizes.{RightSizes}
 use Rattle.table.specs.declared.walk.Sized.{Sized}
 use Rattle.table.proofs.KeepLaw.{part_keeps}
 use Rattle.table.specs.Rule.{conditions_end, RuleAt}
@@ -172,8 +173,8 @@ module _ (ws : List ℤ) (at n k : ℕ) (head : Head ws at n k) where
           let i = length-drop right ws in
           stands_of t (drop conditions ws) (sym e) (omega arith)
 
-      pub rule_good : (end : ℕ) → conditions_end k ws (part_seen ws (left_from at) Left unseen) conditions ≡ some end → (fixed leaves : ℕ) → Counts ws right 1 conditions 0 fixed leaves → RuleAt ws at (record { action = n; right = right; conditions = conditions; end = end; fixed = fixed; leaves = leaves })
-      rule_good end h fixed leaves sized =
+      pub rule_good : (end : ℕ) → conditions_end k ws (part_seen ws (left_from at) Left unseen) conditions ≡ some end → (sizes : RightSizes) → Counts ws right 1 conditions 0 sizes.fixed sizes.leaves → RuleAt ws at (record { action = n; right = right; conditions = conditions; end = end; sizes = sizes })
+      rule_good end h sizes sized =
           let l = the_left in
           let r = the_right in
           let c = conditions_found ws (part_seen ws (left_from at) Left unseen) l.term l.knows k conditions end h in
@@ -189,7 +190,7 @@ module _ (ws : List ℤ) (at n k : ℕ) (head : Head ws at n k) where
           let b : conditions_from at rule ≡ conditions = ap (λ (m : ℕ). m + length (right_words rule)) a ∙ sym q in
           let z : end_from at rule ≡ end = ap (λ (m : ℕ). m + length (conditions_words rule)) b ∙ sym s in
           let y = good_term r.term r.okay in
-          let w = counted ws right conditions fixed leaves sized r.term y.in_range right_stands in
+          let w = counted ws right conditions sizes.fixed sizes.leaves sized r.term y.in_range right_stands in
           record { rule = rule; read = e; action_is = refl; right_is = a; conditions_is = b; end_is = z; fixed_is = w.0; leaves_is = w.1 }
 
 -- ---- the same, from what each part's walk answered
@@ -225,7 +226,7 @@ module _ (ws : List ℤ) (at : ℕ) (room : left_from at ≤ length ws) (action 
           rule_conditions ws at action count head left.end left_at right.end right_at
           (answered_none (conditions_end count ws (part_seen ws (left_from at) Left unseen) right.end) (conditions_are None q))
 
-      pub rule_found : (end : ℕ) → Some end ≡ answered (conditions_end count ws seen' right.end) → RuleAt ws at (record { action = action; right = left.end; conditions = right.end; end = end; fixed = right.fixed; leaves = right.leaves })
+      pub rule_found : (end : ℕ) → Some end ≡ answered (conditions_end count ws seen' right.end) → RuleAt ws at (record { action = action; right = left.end; conditions = right.end; end = end; sizes = right.sizes })
       rule_found end q =
           rule_good ws at action count head left.end left_at right.end right_at end
-          (answered_some end (conditions_end count ws (part_seen ws (left_from at) Left unseen) right.end) (conditions_are (Some end) q)) right.fixed right.leaves (r.sizes right refl)
+          (answered_some end (conditions_end count ws (part_seen ws (left_from at) Left unseen) right.end) (conditions_are (Some end) q)) right.sizes (r.sizes right refl)

@@ -198,5 +198,5 @@ module _ {ws : List ℤ} {at : ℕ} {l : Level} {seen seen' : List Bool} where
   pub no_side : PartContract ws at l seen seen' None → SidePartContract ws at l seen seen' None
   no_side p = record { part = p; sizes = λ s q. absurd (never (cc)) }
 
-  pub a_side : (s : Sized) → PartContract ws at l seen seen' (Some s.end) → Counts ws at 1 s.end 0 s.fixed s.leaves → SidePartContract ws at l seen seen' (Some s)
-  a_side s p c = record { part = p; sizes = λ s' q. let e : s ≡ s' = cc in subst (λ (x : Sized). Counts ws at 1 x.end 0 x.fixed x.leaves) e c }
+  pub a_side : (s : Sized) → PartContract ws at l seen seen' (Some s.end) → Counts ws at 1 s.end 0 s.sizes.fixed s.sizes.leaves → SidePartContract ws at l seen seen' (Some s)
+  a_side s p c = record { part = p; sizes = λ s' q. let e : s ≡ s' = cc in subst (λ (x : Sized). Counts ws at 1 x.end 0 x.sizes.fixed x.sizes.leaves) e c }

@@ -40,8 +40,8 @@ row_of ws at p =
       end = p.end - first_rule;
       key = key_of (get_or ws (left_from at) (pos 0)) (get_or ws (left_from at + 1) (pos 0));
       action = p.action;
-      fixed = p.fixed;
-      leaves = p.leaves;
+      fixed = p.sizes.fixed;
+      leaves = p.sizes.leaves;
     }
 
 -- its numbers are small
@@ -53,8 +53,8 @@ pub record RowFits (ws : List ℤ) (at : ℕ) (p : Parts) : Type 0 where
   pub end_fits : p.end ≤ 65536
   pub short : length ws ≤ 65536
   pub action_fits : p.action < 65536
-  pub ones : p.fixed < 65536
-  pub variables : p.leaves < 65536
+  pub ones : p.sizes.fixed < 65536
+  pub variables : p.sizes.leaves < 65536
 
 -- A row is a rule's: the rule starts at a place, and the row's numbers are the rule's.
 pub record RowOf (ws : List ℤ) (row : Row) (rule : Rule) : Type 0 where

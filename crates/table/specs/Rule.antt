@@ -25,8 +25,8 @@ pub record RuleAt (ws : List ℤ) (at : ℕ) (p : Parts) : Type 0 where
   pub right_is : right_from at rule ≡ p.right
   pub conditions_is : conditions_from at rule ≡ p.conditions
   pub end_is : end_from at rule ≡ p.end
-  pub fixed_is : fixed_nodes (single rule.right) ≡ p.fixed
-  pub leaves_is : variable_nodes (single rule.right) ≡ p.leaves
+  pub fixed_is : fixed_nodes (single rule.right) ≡ p.sizes.fixed
+  pub leaves_is : variable_nodes (single rule.right) ≡ p.sizes.leaves
 
 -- What is found at a place, by the answer.
 abbrev pub RuleIs : List ℤ → ℕ → S.Option Parts → Type 0

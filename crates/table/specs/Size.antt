@@ -34,7 +34,7 @@ pub record SideTurnOn (mixed : Bool) (ws : List ℤ) (l : Level) (i : ℕ) (seen
   pub unmet : mixed ≡ false → met ≡ false
 
 abbrev pub SideTurnIs : Bool → List ℤ → Level → ℕ → List Bool → List Bool → Option SideTurn → Type 0
-SideTurnIs mixed ws l i seen seen' (Some t) = SideTurnOn mixed ws l i seen seen' t.end t.more t.fixed t.leaves t.met
+SideTurnIs mixed ws l i seen seen' (Some t) = SideTurnOn mixed ws l i seen seen' t.end t.more t.sizes.fixed t.sizes.leaves t.met
 SideTurnIs mixed ws l i seen seen' None = Missed mixed ws l i 1 seen seen'
 
 -- What is answered of a dictionary, whatever the level.
@@ -49,7 +49,7 @@ pub record SideEnds (mixed : Bool) (ws : List ℤ) (l : Level) (at : ℕ) (seen 
   pub unmet : mixed ≡ false → met ≡ false
 
 abbrev pub SideIs : Bool → List ℤ → Level → ℕ → List Bool → List Bool → Option SideEnd → Type 0
-SideIs mixed ws l at seen seen' (Some t) = SideEnds mixed ws l at seen seen' t.end t.fixed t.leaves t.met
+SideIs mixed ws l at seen seen' (Some t) = SideEnds mixed ws l at seen seen' t.end t.sizes.fixed t.sizes.leaves t.met
 SideIs mixed ws l at seen seen' None = Missed mixed ws l at 1 seen seen'
 
 -- What is found at a place where a side should start: the place behind it, and its sizes.
@@ -59,4 +59,4 @@ place_of None = None
 
 pub record SidePartContract (ws : List ℤ) (at : ℕ) (l : Level) (seen seen' : List Bool) (r : Option Sized) : Type 0 where
   pub part : PartContract ws at l seen seen' (place_of r)
-  pub sizes : (s : Sized) → r ≡ Some s → Counts ws at 1 s.end 0 s.fixed s.leaves
+  pub sizes : (s : Sized) → r ≡ Some s → Counts ws at 1 s.end 0 s.sizes.fixed s.sizes.leaves

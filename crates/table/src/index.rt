@@ -47,7 +47,7 @@ pub(crate) fn row_from(table: &[i64], at: usize, parts: Parts) -> Row
         end: placed(parts.end),
         key: key(table[left], table[left + 1]),
         action: parts.action as u16,
-        fixed: parts.fixed as u16,
-        leaves: parts.leaves as u16,
+        fixed: parts.sizes.fixed as u16,
+        leaves: parts.sizes.leaves as u16,
     }
 }

@@ -3,7 +3,7 @@ ghost use Rattle.std.specs.Prelude.{◌≡◌};
 ghost use Rattle.table.specs.Number.{answered};
 ghost use Rattle.table.specs.Rule.{conditions_end, RuleIs};
 
-use crate::index::HEADER;
+use crate::index::{HEADER, RightSizes};
 use crate::number::number_below;
 use crate::part::{expression_part, side_part};
 use minuska::limits::{MAX_ACTION, MAX_CONDITIONS};
@@ -21,8 +21,7 @@ pub struct Parts {
     pub right: usize,
     pub conditions: usize,
     pub end: usize,
-    pub fixed: usize,
-    pub leaves: usize,
+    pub sizes: RightSizes,
 }
 
 // The place behind the conditions that start at a place: two expressions each.
@@ -56,7 +55,6 @@ pub fn rule_parts(table: &[i64], at: usize) -> Option<Parts>
         right: left.end,
         conditions: right.end,
         end,
-        fixed: right.fixed,
-        leaves: right.leaves,
+        sizes: right.sizes,
     })
 }

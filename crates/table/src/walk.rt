@@ -4,6 +4,7 @@ ghost use Rattle.table.specs.Node.{side_level};
 ghost use Rattle.table.specs.Part.{Ending, TermIs, ExpressionIs, SideFound};
 
 use crate::expression::expressions_end;
+use crate::index::RightSizes;
 use crate::side::side_end;
 use minuska::limits::MAX_TERM_WORDS;
 use term::VARIABLES;
@@ -13,8 +14,7 @@ use term::order::in_order;
 #[derive(Clone, Copy)]
 pub struct Sized {
     pub end: usize,
-    pub fixed: usize,
-    pub leaves: usize,
+    pub sizes: RightSizes,
 }
 
 // Whether what was walked is a term: it is no longer than one, and its dictionaries, if any was met, are in order.
@@ -63,7 +63,6 @@ pub fn side<const LEFT: bool, const MIXED: bool>(
     }
     Some(Sized {
         end: walked.end,
-        fixed: walked.fixed,
-        leaves: walked.leaves,
+        sizes: walked.sizes,
     })
 }

@@ -10,6 +10,9 @@ use native.Mathlib.Omega.{arith}
 use lib.IntN.{ℤ, pos}
 use lib.ListN.{length, drop, get_or, length-drop}
 use lib.Seq.{drop-cons}
+use mir.Facts.{to_z-of_z}
+use mir.Syntax.{w64}
+use mir.Val.{SFits, of_z, to_z}
 use Rattle.minuska.proofs.Tests.{came}
 use Rattle.minuska.specs.Basics.{◌>>=◌}
 use Rattle.minuska.specs.Term.{Label}
@@ -151,3 +154,18 @@ module _ {p : Label → Bool} {s : List ℤ} {at count i k : ℕ} (w : Walking p
 
       pub walking_on : Walking p s at count (i + 2) (k - 1 + m)
       walking_on = walking_next turn.room j m e
+
+-- ---- the same of the two words as they are stored, for the loops that walk
+module _ {p : Label → Bool} {s : List ℤ} {at count i k : ℕ} (w : Walking p s at count i k) (a : TermsAt p s at count) (j : 0 < k) (t : SFits w64 (get_or s i (pos 0))) (d : SFits w64 (get_or s (i + 1) (pos 0))) where
+  pub stored_node : WalkedNode p (to_z w64 (of_z w64 (get_or s i (pos 0)))) (to_z w64 (of_z w64 (get_or s (i + 1) (pos 0))))
+  stored_node = rw (to_z-of_z t, to_z-of_z d) (walking_node w a j)
+
+  module _ {m : ℕ} (e : children_if p (to_z w64 (of_z w64 (get_or s i (pos 0)))) (to_z w64 (of_z w64 (get_or s (i + 1) (pos 0)))) ≡ some m) where
+    said : children_if p (get_or s i (pos 0)) (get_or s (i + 1) (pos 0)) ≡ some m
+    said = rw (to_z-of_z t, to_z-of_z d) at e
+
+    pub stored_few : k - 1 + m ≤ length s
+    stored_few = walking_few w a j m said
+
+    pub stored_on : Walking p s at count (i + 2) (k - 1 + m)
+    stored_on = walking_on w a j m said

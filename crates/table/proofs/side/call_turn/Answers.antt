@@ -9,4 +9,4 @@ pub returns-in_err-below : goal.returns-in_err-below
 returns-in_err-below g c = rw c.from_residual.ensures (call_missed c.requires c.args.seen.now c.in_err-below.ensures)
 
 pub returns : goal.returns
-returns g c = rw (c.call_fixed.ensures, c.call_leaves.ensures) (call_on c.requires c.args.seen.now c.in_ok-below.ensures)
+returns g c = rw (c.call_sizes.ensures.ones, c.call_sizes.ensures.variables) (call_on c.requires c.args.seen.now c.in_ok-below.ensures)

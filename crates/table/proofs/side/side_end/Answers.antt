@@ -12,11 +12,11 @@ side_turn-requires g c = c.loop-k.invariant.walked.reaches.inside
 pub returns-in_err-turn : goal.returns-in_err-turn
 returns-in_err-turn g c = rw c.from_residual.ensures (loop_missed c.loop-k.invariant.walked c.loop-k-test.true _ c.in_err-turn.ensures)
 
-pub overflow_add-fixed : goal.overflow_add-fixed
-overflow_add-fixed g c = let f = side_few c.loop-k.invariant c.loop-k-test.true c.in_ok-turn.ensures in omega arith
+pub overflow_add-sizes : goal.overflow_add-sizes
+overflow_add-sizes g c = let f = side_few c.loop-k.invariant c.loop-k-test.true c.in_ok-turn.ensures in omega arith
 
-pub overflow_add-leaves : goal.overflow_add-leaves
-overflow_add-leaves g c = let f = side_few c.loop-k.invariant c.loop-k-test.true c.in_ok-turn.ensures in omega arith
+pub overflow_add-sizes-in-loop-k : goal.overflow_add-sizes-in-loop-k
+overflow_add-sizes-in-loop-k g c = let f = side_few c.loop-k.invariant c.loop-k-test.true c.in_ok-turn.ensures in omega arith
 
 pub overflow_add-k : goal.overflow_add-k
 overflow_add-k g c =
