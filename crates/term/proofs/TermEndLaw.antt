@@ -169,3 +169,30 @@ module _ {p : Label → Bool} {s : List ℤ} {at count i k : ℕ} (w : Walking p
 
     pub stored_on : Walking p s at count (i + 2) (k - 1 + m)
     stored_on = walking_on w a j m said
+
+zero_plus : (m : ℕ) → 0 + m ≡ m
+zero_plus m = omega arith
+
+-- ---- a term ends behind its node if it has no children, and else where they do
+module _ {p : Label → Bool} {s : List ℤ} {at : ℕ} (a : TermsAt p s at 1) (t : SFits w64 (get_or s at (pos 0))) (d : SFits w64 (get_or s (at + 1) (pos 0))) where
+  abbrev start : Walking p s at 1 at 1
+  start = record { same = refl }
+
+  pub root_node : WalkedNode p (to_z w64 (of_z w64 (get_or s at (pos 0)))) (to_z w64 (of_z w64 (get_or s (at + 1) (pos 0))))
+  root_node = stored_node start a (omega arith) t d
+
+  pub root_room : at + 2 ≤ length s
+  root_room = (turn start a (omega arith)).room
+
+  module _ {m : ℕ} (e : children_if p (to_z w64 (of_z w64 (get_or s at (pos 0)))) (to_z w64 (of_z w64 (get_or s (at + 1) (pos 0)))) ≡ some m) where
+    behind : Walking p s at 1 (at + 2) m
+    behind = rw⁻¹ (zero_plus m) (stored_on start a (omega arith) t d e)
+
+    pub ends_behind : m ≡ 0 → TermsEnd p s at 1 (at + 2)
+    ends_behind z = walking_end behind z
+
+    pub children_at_lem : TermsAt p s (at + 2) m
+    children_at_lem = record { end = a.end; ends = sym behind.same ∙ a.ends }
+
+    pub ends_with : {r : ℕ} → TermsEnd p s (at + 2) m r → TermsEnd p s at 1 r
+    ends_with f = record { is = behind.same ∙ f.is }

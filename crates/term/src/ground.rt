@@ -13,7 +13,7 @@ const TAGS: usize = 16;
 // Columns, and not a list of rows: an entry is found with two instructions less. And no match by kinds: so no branch goes by the tag.
 struct Nodes {
     bound: [u64; TAGS],
-    children: [usize; TAGS],
+    children: [u8; TAGS],
 }
 
 // Read as a number without a sign, a word below 0 is above all bounds but this one, of a whole, which any word is but -1: that one is asked apart.
@@ -66,7 +66,7 @@ pub fn tagged_children(t: i64, d: i64) -> Option<usize>
         return None;
     }
     if d.cast_unsigned() < NODES.bound[tag] {
-        return Some(NODES.children[tag]);
+        return Some(usize::from(NODES.children[tag]));
     }
     if t == WHOLE {
         return Some(0);

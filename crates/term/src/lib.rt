@@ -114,7 +114,7 @@ pub fn ground_end(s: &[i64], at: usize) -> usize
     requires { GroundAt s.now at }
     ensures { GroundEnds s.now at result }
 {
-    terms_end::<false>(s, at, 1)
+    term_end::<false>(s, at)
 }
 
 // The place behind the term that stands at a place, which may have variables and calls.
@@ -122,11 +122,25 @@ pub fn expression_end(s: &[i64], at: usize) -> usize
     requires { TermAt s.now at }
     ensures { TermEnds s.now at result }
 {
-    terms_end::<true>(s, at, 1)
+    term_end::<true>(s, at)
+}
+
+// The place behind the term that stands at a place, which has variables and calls only if `ANY`. Most are a node without children, whose end is told here; the walk over what is below
+// another is not inlined: so it is compiled once, and the loops that ask for an end stay small.
+fn term_end<const ANY: bool>(s: &[i64], at: usize) -> usize
+    requires { TermsAt (walked ANY) s.now at 1 }
+    ensures { TermsEnd (walked ANY) s.now at 1 result }
+{
+    let children = walked_children::<ANY>(s[at], s[at + 1]);
+    if children == 0 {
+        return at + 2;
+    }
+    terms_end::<ANY>(&s[..], at + 2, children)
 }
 
 // The place behind so many terms that stand at a place, which have variables and calls only if `ANY`. At the first dictionary `mixed_end` goes on: this loop has no other work for one
 // than to leave. No iterator fits: how many nodes are to come is read on the way.
+#[inline(never)]
 fn terms_end<const ANY: bool>(s: &[i64], at: usize, count: usize) -> usize
     requires { TermsAt (walked ANY) s.now at count }
     ensures { TermsEnd (walked ANY) s.now at count result }

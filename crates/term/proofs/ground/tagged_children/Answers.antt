@@ -1,5 +1,5 @@
 -- The tag's bound is read; whether the datum is below it.
-use Rattle.std.proofs.Common.{◌≡◌, refl, sym, pos, arith, w64, FitsSigned}
+use Rattle.std.proofs.Common.{◌≡◌, ◌∙◌, refl, sym, pos, arith, w64, FitsSigned}
 use Rattle.term.specs.TermEnd.{tag_children}
 use Rattle.std.proofs.lemmas.Grind.{common_steps}
 use Rattle.std.proofs.lemmas.Int.{ints, to_z-of_z}
@@ -16,7 +16,7 @@ returns-then-cast_unsigned-tag-clause-node c =
 pub returns-then-cast_unsigned-tag-clause-count : goal.returns-then-cast_unsigned-tag-clause-count
 returns-then-cast_unsigned-tag-clause-count c =
     let p : c.args.t ≡ pos c.in_ok-tag.tag = grind (arith, ints, common_steps) in
-    rw p (children_entry c.in_ok-tag.tag c.if-tag-ge-TAGS.false)
+    rw p (c.from.ensures ∙ children_entry c.in_ok-tag.tag c.if-tag-ge-TAGS.false)
 
 pub returns-then-t-eq-WHOLE-clause-node : goal.returns-then-t-eq-WHOLE-clause-node
 returns-then-t-eq-WHOLE-clause-node c = of_whole c.args.t c.args.d (grind (arith, ints, common_steps))
