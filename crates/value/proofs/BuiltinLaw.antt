@@ -1,5 +1,5 @@
 -- What two words say by their tag; the functions on arguments of one kind, and what an argument of another kind is to them.
-use mathlib.Core.Path.{◌≡◌, refl, sym, ap}
+use mathlib.Core.Path.{◌≡◌, refl, sym, ap, ◌∙◌}
 use mathlib.Core.Bool.{Bool, true, false, ◌&&◌, cond}
 use mathlib.Core.Option.{Option, none, some}
 use Prim.Native.Nat.{ℕ, zero, suc, ◌^◌, ◌≤◌, ◌<◌}
@@ -11,11 +11,12 @@ use lib.Signed.{mag, lt_z}
 use borrow.Author.Tests.{ltb-true, ltb-false, le-leb, lt-leb, lt-ltb, ne_eqb}
 use mir.Syntax.{w64}
 use mir.Val.{SFits, of_z}
+use Rattle.std.specs.Prelude as S
 use Rattle.minuska.specs.Term.{leaf, Label, error, whole, symbol, dictionary, Term, as_symbol, as_truth, as_whole}
 use Rattle.minuska.specs.Basics.{◌>>=◌, present, provided, same_whole}
 use Rattle.minuska.specs.Nearest.{nearest}
 use Rattle.minuska.specs.Function.{wrong_kind, or_wrong_kind, whole_term, share_range, share_of, Function, functions, no_function}
-use Rattle.value.specs.Builtin.{unsigned, label_at, label_of, root_of, leaves, applied}
+use Rattle.value.specs.Builtin.{unsigned, label_at, label_of, root_of, number_term, leaves, applied}
 use Rattle.value.specs.declared.builtin.Root.{Root}
 use Rattle.value.proofs.SignedLaw.{eq_bits, word_is, word_not}
 
@@ -150,12 +151,16 @@ module _ (x y z : ℤ) where
   share_in e = rw e
 
 -- ---- a sum or a difference, by whether it fits a word
-pub word_in : (z : ℤ) → SFits w64 z → leaf (whole z) ≡ whole_term z
+word_in : (z : ℤ) → SFits w64 z → leaf (whole z) ≡ whole_term z
 word_in z f = rw (lt-ltb (mag z) (2 ^ 63) f.sfits)
 
-pub word_out : (z : ℤ) → (SFits w64 z → ⊥) → wrong_kind ≡ whole_term z
+word_out : (z : ℤ) → (SFits w64 z → ⊥) → wrong_kind ≡ whole_term z
 word_out z f = go (ltb (mag z) (2 ^ 63)) refl
   where
     go : (b : Bool) → ltb (mag z) (2 ^ 63) ≡ b → wrong_kind ≡ cond b (leaf (whole z)) wrong_kind
     go true e = absurd (f (record { sfits = ltb-true (mag z) (2 ^ 63) e }))
     go false e = refl
+
+pub number_fits : (o : S.Option ℤ) (z : ℤ) → S.SomeIff o (SFits w64 z) z → number_term o ≡ whole_term z
+number_fits S.None z e = word_out z e
+number_fits (S.Some y) z e = ap (λ (x : ℤ). leaf (whole x)) e.1 ∙ word_in z e.0

@@ -16,20 +16,12 @@ use Rattle.minuska.specs.Function.{as_dictionary_at, as_dictionary}
 use Rattle.minuska.specs.Computed.Read.{dictionary_tag}
 use Rattle.minuska.proofs.Tests.{came, and_right}
 use Rattle.minuska.proofs.NodeLaw.{DictionaryNode, dictionary_tag_lem}
+use Rattle.minuska.proofs.LabelLaw.{whole_label}
 use Rattle.minuska.proofs.WordLaw.{Okay, okay, head_okay, below_okay, childless}
 use Rattle.minuska.proofs.DictionaryLaw.{terms_count}
 use Rattle.minuska.proofs.Bridge.AppendedLaw.{labels}
 
 -- ---- terms in range that are entries are those entries' terms
-key_label : (l : Label) (k : ℤ) → as_whole l ≡ some k → l ≡ whole k
-key_label error k e = absurd (none-ne-some k e)
-key_label (truth b) k e = absurd (none-ne-some k e)
-key_label (whole z) k e = ap whole (some-injective z k e)
-key_label (variable v) k e = absurd (none-ne-some k e)
-key_label (call c) k e = absurd (none-ne-some k e)
-key_label (symbol s) k e = absurd (none-ne-some k e)
-key_label (dictionary n) k e = absurd (none-ne-some k e)
-
 pub terms_of : (f : Forest) (es : Entries) → T (ok f) → entries f ≡ some es → f ≡ entry_terms es
 terms_of nil es x e = ap entry_terms (some-injective [] es e)
 terms_of (node l ls nil) es x e = absurd (none-ne-some es e)
@@ -38,7 +30,7 @@ terms_of (node l ls (node m ms ss)) es x e =
     let c = came (as_whole l) (λ k. entries ss >>= λ es. some (record { key = k; value = t } ∷ es)) es e in
     let d = came (entries ss) (λ es. some (record { key = c.0; value = t } ∷ es)) es c.2 in
     let o = okay l ls (node m ms ss) x in
-    let q : l ≡ whole c.0 = key_label l c.0 c.1 in
+    let q : l ≡ whole c.0 = whole_label l c.0 c.1 in
     let n : ls ≡ nil = childless ls (eqb→eq (term_count ls) 0 (subst (λ (y : Label). T (ok_head y (term_count ls))) q (head_okay l ls o.allowed))) in
     let i : ss ≡ entry_terms d.0 = terms_of ss d.0 (okay m ms ss o.rest).rest d.1 in
     ap (λ (y : Label). node y ls (node m ms ss)) q ∙

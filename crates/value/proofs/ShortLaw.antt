@@ -3,7 +3,7 @@ use mathlib.Core.Path.{◌≡◌, refl, sym, ◌∙◌, ap, subst}
 use mathlib.Core.Bool.{true}
 use mathlib.Core.Logic.{◌⊎◌, inl, inr}
 use mathlib.Core.List.{List}
-use Prim.Native.Nat.{ℕ, zero, suc, ◌+◌, ◌<◌}
+use Prim.Native.Nat.{ℕ, zero, suc, ◌+◌, ◌≤◌, ◌<◌}
 use native.Mathlib.Omega.{arith}
 use lib.IntN.{ℤ, pos, negsuc, nat_abs}
 use lib.ListN.{length, get_or}
@@ -14,12 +14,14 @@ use Rattle.minuska.specs.Word.{encode}
 use Rattle.minuska.specs.Function.{argument, function_at}
 use Rattle.minuska.specs.Satisfaction.{Valuation}
 use Rattle.minuska.specs.Bridge.Walk.{looking}
+use Rattle.term.specs.TermEnd.{arity_of}
 use Rattle.value.specs.Evaluate.{HasValue, first_of, rest_of}
-use Rattle.value.specs.Short.{Short}
+use Rattle.value.specs.Short.{CallThere, Short}
 use Rattle.term.specs.declared.Span.{Span}
 use Rattle.value.proofs.SignedLaw.{abs_back}
 use Rattle.value.proofs.RootLaw.{RootThere, root_stands}
-use Rattle.value.proofs.CallLaw.{read_at}
+use Rattle.value.proofs.ArityLaw.{arity_is}
+use Rattle.value.proofs.CallLaw.{read_at, expression_room, the_call, code_is}
 use Rattle.value.proofs.ExpressionLaw.{CallHere, is_variable, is_literal, is_more, no_more}
 use Rattle.value.proofs.MeantLaw.{first_long}
 
@@ -119,3 +121,25 @@ module _ (table config : List ℤ) (starts ends : List ℕ) (at : ℕ) (ρ : Val
   -- such a call has six words
   pub call_long : (e t : Term) (k : CallHere table config starts ends at ρ e t) → Short table at → length (encode (single e)) ≡ 6
   call_long e t k s = sym (six table config starts ends at ρ e t k s)
+
+-- a call that the code has read as one of two arguments
+pub record TwoThere (table : List ℤ) (at : ℕ) : Type 0 where
+  pub code : read_at table (at + 1) ≡ nat_abs (get_or table (at + 1) (pos 0))
+  pub two : (function_at (nat_abs (get_or table (at + 1) (pos 0)))).arity ≡ 2
+  pub first : at + 4 ≤ length table
+  pub second : lt_z (get_or table (at + 2) (pos 0)) (pos 4) ≡ true → at + 6 ≤ length table
+
+pub two_there : {table : List ℤ} {at : ℕ} → CallThere table at → arity_of (read_at table (at + 1)) ≡ 2 → TwoThere table at
+two_there {table} {at} c a =
+    let e = c.call.expression in
+    let k = the_call table c.config c.starts c.ends at e.valuation e.expression e.term e.has c.call.tag in
+    let n = code_is table c.config c.starts c.ends at e.valuation e.expression e.term e.has c.call.tag in
+    let two : (function_at k.code).arity ≡ 2 = sym (arity_is k.code) ∙ (ap arity_of (sym n) ∙ a) in
+    let h = two_here table c.config c.starts c.ends at e.valuation e.expression e.term k two in
+    let r = expression_room _ _ _ _ _ _ _ _ h.first in
+    record {
+      code = n ∙ sym (ap nat_abs k.datum);
+      two = ap (λ (m : ℕ). (function_at m).arity) (ap nat_abs k.datum) ∙ two;
+      first = omega arith;
+      second = λ low. let l = short_long _ _ _ _ _ _ h.a h.x h.first low in let s = expression_room _ _ _ _ _ _ _ _ h.second in omega arith;
+    }

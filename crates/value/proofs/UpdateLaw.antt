@@ -5,7 +5,7 @@ use mathlib.Core.Option.{Option, none, some}
 use mathlib.Core.List.{List, [], ◌∷◌, ◌++◌, append-nil, append_assoc}
 use Prim.Native.Nat.{ℕ, ◌+◌, ◌-◌, ◌≤◌, ◌<◌}
 use native.Mathlib.Omega.{arith}
-use lib.Dec.{T, leb}
+use lib.Dec.{T, leb, lit<}
 use lib.IntN.{ℤ, pos, nat_abs}
 use lib.ListN.{length, take, drop, length-append, length-take, length-drop}
 use lib.Seq.{drop-drop}
@@ -20,6 +20,8 @@ use Rattle.minuska.proofs.Bridge.PlaceLaw.{stands_whole}
 use Rattle.std.specs.Prelude as S
 use Rattle.term.specs.declared.Span.{Span}
 use borrow.Author.Tests.{le-leb, lt-leb}
+use mir.Syntax.{w64}
+use mir.Val.{SFits, to_z, of_z}
 use Rattle.value.specs.Copy.{written, PutContract}
 use Rattle.value.specs.Root.{ValueIn, RootIs}
 use Rattle.minuska.specs.Rule.{updating}
@@ -30,6 +32,8 @@ use Rattle.value.specs.declared.Value.{Value}
 use Rattle.value.specs.declared.Value.TheVariants.{Table, Configuration, Computed}
 use Rattle.value.specs.declared.builtin.Root.{Root}
 use Rattle.value.specs.declared.update.Plan.{Plan}
+use Rattle.value.proofs.SignedLaw.{abs_back}
+use Rattle.value.proofs.BuiltinLaw.{tag_is}
 use Rattle.value.proofs.CopyLaw.{written_take, written_drop, written_length}
 use Rattle.value.proofs.EntriesLaw.{no_dictionary, DictionaryOf, dictionary_of}
 use Rattle.value.proofs.SearchLaw.{Slot, has_slot, lacks_slot}
@@ -93,35 +97,33 @@ kept_words xs n ws e q = ap (λ (m : ℕ). encode (single (cond (leb m max_entri
     go false = refl
 
 module _ (table config : List ℤ) (d : Value) (r : Root) (root_is : RootIs table config d r) where
-  pub no_dictionary_root : same_whole r.tag (pos 5) ≡ false → (s : Term) → IsValue table config d s → as_dictionary s ≡ none
+  no_dictionary_root : same_whole r.tag (pos 5) ≡ false → (s : Term) → IsValue table config d s → as_dictionary s ≡ none
   no_dictionary_root e s i =
       no_dictionary s.label s.children (λ q. absurd (subst T (sym (ap (λ (z : ℤ). same_whole z (pos 5)) ((root_is.is s i).tag ∙ q)) ∙ e) tt))
 
-  module _ (e : same_whole r.tag (pos 5) ≡ true) where
-    the_dictionary : (s : Term) → IsValue table config d s → (n : ℕ) × (datum_word s.label ≡ pos n) × DictionaryOf n s
-    the_dictionary s i = dictionary_of s i.good i.grounded (sym (root_is.is s i).tag ∙ same_whole_lem r.tag (pos 5) (subst⁻¹ T e tt))
+  the_dictionary : same_whole r.tag (pos 5) ≡ true → (s : Term) → IsValue table config d s → (n : ℕ) × (datum_word s.label ≡ pos n) × DictionaryOf n s
+  the_dictionary e s i = dictionary_of s i.good i.grounded (sym (root_is.is s i).tag ∙ same_whole_lem r.tag (pos 5) (subst⁻¹ T e tt))
 
-    pub head_count : ValueIn table config d → (n : ℕ) × (r.datum ≡ pos n) × (n ≤ 64)
-    head_count h = let a = the_dictionary h.term h.is in (a.0, (root_is.is h.term h.is).datum ∙ a.1, a.2.few)
+-- what the code has read of a key and of a dictionary: their roots, how many entries, and their words behind the dictionary's root
+pub record Heads (table config : List ℤ) (d k : Value) (q r : Root) (ws : List ℤ) : Type 0 where
+  pub key_is : RootIs table config k q
+  pub root_is : RootIs table config d r
+  pub whole : same_whole q.tag (pos 2) ≡ true
+  pub dictionary : same_whole r.tag (pos 5) ≡ true
+  pub n : ℕ
+  pub is : r.datum ≡ pos n
+  pub few : n ≤ 64
+  pub back : nat_abs (to_z w64 (of_z w64 r.datum)) ≡ n
+  pub words : ws ≡ drop 2 (value_words table config d)
 
-    module _ (n : ℕ) (q : r.datum ≡ pos n) where
-      dictionary_is : (s : Term) → IsValue table config d s → DictionaryOf n s
-      dictionary_is s i =
-          let a = the_dictionary s i in
-          subst (λ (m : ℕ). DictionaryOf m s) (ap nat_abs (sym ((root_is.is s i).datum ∙ a.1) ∙ q)) a.2
-
-      -- its entries' words are those behind its root
-      module _ (ws : List ℤ) (p : ws ≡ drop 2 (value_words table config d)) where
-        words_are : (s : Term) (i : IsValue table config d s) → ws ≡ encode (entry_terms (dictionary_is s i).items)
-        words_are s i = p ∙ ap (drop 2) (i.words ∙ (dictionary_is s i).words)
-
-        entries_at : (s : Term) (i : IsValue table config d s) → EntriesAt ws 0 n (dictionary_is s i).items
-        entries_at s i =
-            let a = dictionary_is s i in
-            record { good = a.good; grounded = a.grounded; count = a.count; stands = subst (λ (xs : List ℤ). Stands ws 0 xs) (words_are s i) (stands_whole ws) }
-
-        pub entries_in : ValueIn table config d → EntriesIn ws 0 n
-        entries_in h = record { entries = (dictionary_is h.term h.is).items; are = entries_at h.term h.is }
+pub heads : {table config : List ℤ} {d k : Value} {q r : Root} {ws : List ℤ} → RootIs table config k q → RootIs table config d r → ValueIn table config d → ws ≡ drop 2 (value_words table config d) →
+    SFits w64 q.tag → SFits w64 r.tag → of_z w64 q.tag ≡ 2 → of_z w64 r.tag ≡ 5 → Heads table config d k q r ws
+heads {table} {config} {d} {k} {q} {r} key_is root_is h p f g x y =
+    let e = tag_is r.tag 5 g (lit< tt) y in
+    let a = the_dictionary table config d r root_is e h.term h.is in
+    let b : r.datum ≡ pos a.0 = (root_is.is h.term h.is).datum ∙ a.1 in
+    let c = a.2.few in
+    record { key_is = key_is; root_is = root_is; whole = tag_is q.tag 2 f (lit< tt) x; dictionary = e; n = a.0; is = b; few = c; back = abs_back r.datum a.0 b (omega arith); words = p }
 
 -- ---- WHAT AN UPDATE IS WORTH, by the roots of its arguments
 module _ (table config : List ℤ) (d k : Value) (q : Root) (key_is : RootIs table config k q) where
@@ -133,48 +135,57 @@ module _ (table config : List ℤ) (d k : Value) (q : Root) (key_is : RootIs tab
         fits = tt;
       }
 
-  module _ (r : Root) (root_is : RootIs table config d r) where
-    pub plan_no_dictionary : same_whole r.tag (pos 5) ≡ false → PlanContract table config d k S.None
+  pub plan_no_dictionary : (r : Root) → RootIs table config d r → same_whole r.tag (pos 5) ≡ false → PlanContract table config d k S.None
+  unfolding plan_words
+  plan_no_dictionary r root_is e =
+      record {
+        is = λ s t v i j. ap (λ (y : Term). encode (single y)) (no_entries s t v (no_dictionary_root table config d r root_is e s i));
+        fits = tt;
+      }
+
+module _ {table config : List ℤ} {d k : Value} {q r : Root} {ws : List ℤ} (a : Heads table config d k q r ws) where
+  dictionary_is : (s : Term) → IsValue table config d s → DictionaryOf a.n s
+  dictionary_is s i =
+      let b = the_dictionary table config d r a.root_is a.dictionary s i in
+      subst (λ (m : ℕ). DictionaryOf m s) (ap nat_abs (sym ((a.root_is.is s i).datum ∙ b.1) ∙ a.is)) b.2
+
+  -- its entries' words are those behind its root
+  words_are : (s : Term) (i : IsValue table config d s) → ws ≡ encode (entry_terms (dictionary_is s i).items)
+  words_are s i = a.words ∙ ap (drop 2) (i.words ∙ (dictionary_is s i).words)
+
+  entries_at : (s : Term) (i : IsValue table config d s) → EntriesAt ws 0 a.n (dictionary_is s i).items
+  entries_at s i =
+      let b = dictionary_is s i in
+      record { good = b.good; grounded = b.grounded; count = b.count; stands = subst (λ (xs : List ℤ). Stands ws 0 xs) (words_are s i) (stands_whole ws) }
+
+  pub entries_in : ValueIn table config d → EntriesIn ws 0 a.n
+  entries_in h = record { entries = (dictionary_is h.term h.is).items; are = entries_at h.term h.is }
+
+  module _ (from to count : ℕ) (slot : (es : Entries) → EntriesAt ws 0 a.n es → ws ≡ encode (entry_terms es) → Slot ws q.datum es from to count) where
+    slot_of : (s : Term) (i : IsValue table config d s) → Slot ws q.datum (dictionary_is s i).items from to count
+    slot_of s i = slot _ (entries_at s i) (words_are s i)
+
+    -- a sixty-fifth key aside
+    update_words : (s t v : Term) → IsValue table config d s → IsValue table config k t → (b : Bool) → leb count max_entries ≡ b →
+        encode (single (updated s t v)) ≡ cond b (pos 5 ∷ pos count ∷ placed ws from to q.datum (encode (single v))) (pos 0 ∷ pos 0 ∷ [])
+    update_words s t v i j b e =
+        let c = slot_of s i in
+        let f = at_key s t v _ q.datum (dictionary_is s i).is (key_seen q t (a.key_is.is t j) ∙ ap (λ (y : Bool). provided y q.datum) a.whole) in
+        ap (λ (y : Term). encode (single y)) f ∙
+        (kept_words _ count _ (c.many v) (c.words v) ∙ ap (λ (y : Bool). cond y (pos 5 ∷ pos count ∷ placed ws from to q.datum (encode (single v))) (pos 0 ∷ pos 0 ∷ [])) e)
+
+    pub plan_keeps : (h : ValueIn table config d) → count ≤ 64 → PlanContract table config d k (S.Some (record { replaced = record { from = from; to = to }; count = count; key = q.datum }))
     unfolding plan_words
-    plan_no_dictionary e =
+    plan_keeps h l =
+        let b = slot_of h.term h.is in
         record {
-          is = λ s t v i j. ap (λ (y : Term). encode (single y)) (no_entries s t v (no_dictionary_root table config d r root_is e s i));
-          fits = tt;
+          is = λ s t v i j. update_words s t v i j true (le-leb count 64 l) ∙ ap (λ (xs : List ℤ). pos 5 ∷ pos count ∷ placed xs from to q.datum (encode (single v))) a.words;
+          fits = record { order = b.order; within = subst (λ (xs : List ℤ). to ≤ length xs) a.words b.within; few = omega arith };
         }
 
-    module _ (e : same_whole q.tag (pos 2) ≡ true) (f : same_whole r.tag (pos 5) ≡ true) (n : ℕ) (m : r.datum ≡ pos n) (ws : List ℤ) (p : ws ≡ drop 2 (value_words table config d)) (from to count : ℕ)
-        (slot : (es : Entries) → EntriesAt ws 0 n es → ws ≡ encode (entry_terms es) → Slot ws q.datum es from to count) where
-      slot_of : (s : Term) (i : IsValue table config d s) → Slot ws q.datum (dictionary_is table config d r root_is f n m s i).items from to count
-      slot_of s i = slot _ (entries_at table config d r root_is f n m ws p s i) (words_are table config d r root_is f n m ws p s i)
-
-      put_is : (s t v : Term) (i : IsValue table config d s) → IsValue table config k t → updated s t v ≡ kept (put q.datum v (dictionary_is table config d r root_is f n m s i).items)
-      put_is s t v i j = at_key s t v _ q.datum (dictionary_is table config d r root_is f n m s i).is (key_seen q t (key_is.is t j) ∙ ap (λ (b : Bool). provided b q.datum) e)
-
-      pub plan_keeps : (h : ValueIn table config d) → count ≤ 64 → PlanContract table config d k (S.Some (record { replaced = record { from = from; to = to }; count = count; key = q.datum }))
-      unfolding plan_words
-      plan_keeps h l =
-          let b = slot_of h.term h.is in
-          record {
-            is = λ s t v i j.
-                let c = slot_of s i in
-                ap (λ (y : Term). encode (single y)) (put_is s t v i j) ∙
-                (kept_words _ count _ (c.many v) (c.words v) ∙
-                (ap (λ (y : Bool). cond y (pos 5 ∷ pos count ∷ placed ws from to q.datum (encode (single v))) (pos 0 ∷ pos 0 ∷ [])) (le-leb count 64 l) ∙
-                ap (λ (xs : List ℤ). pos 5 ∷ pos count ∷ placed xs from to q.datum (encode (single v))) p));
-            fits = record { order = b.order; within = subst (λ (xs : List ℤ). to ≤ length xs) p b.within; few = omega arith };
-          }
-
-      pub plan_full : 64 < count → PlanContract table config d k S.None
-      unfolding plan_words
-      plan_full l =
-          record {
-            is = λ s t v i j.
-                let c = slot_of s i in
-                ap (λ (y : Term). encode (single y)) (put_is s t v i j) ∙
-                (kept_words _ count _ (c.many v) (c.words v) ∙
-                ap (λ (y : Bool). cond y (pos 5 ∷ pos count ∷ placed ws from to q.datum (encode (single v))) (pos 0 ∷ pos 0 ∷ [])) (lt-leb count 64 l));
-            fits = tt;
-          }
+    pub plan_full : 64 < count → PlanContract table config d k S.None
+    unfolding plan_words
+    plan_full l = record { is = λ s t v i j. update_words s t v i j false (lt-leb count 64 l); fits = tt }
 
 -- the slot that a search found
 pub found_slot : {ws : List ℤ} {n : ℕ} {key : ℤ} {r : Span} → SearchIs ws 0 n key (S.Ok r) → (es : Entries) → EntriesAt ws 0 n es → ws ≡ encode (entry_terms es) → Slot ws key es r.from r.to n

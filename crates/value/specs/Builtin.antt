@@ -1,8 +1,8 @@
 -- "A call's function code is one of these eighteen": `minuska`'s table, on the roots of the arguments.
-use Rattle.std.specs.Prelude.{◌≡◌, cond, ℕ, zero, suc, ◌-◌, ◌^◌, eqb, leb, ℤ, pos, negsuc}
-use Rattle.minuska.specs.Term.{Label, error, truth, whole, symbol, dictionary, Forest, nil, node}
+use Rattle.std.specs.Prelude.{◌≡◌, cond, ℕ, zero, suc, ◌-◌, ◌^◌, eqb, leb, ℤ, pos, negsuc, Option, Some, None}
+use Rattle.minuska.specs.Term.{Label, error, truth, whole, symbol, dictionary, Forest, nil, node, Term, leaf}
 use Rattle.minuska.specs.Word.{tag_word, datum_word}
-use Rattle.minuska.specs.Function.{interpret}
+use Rattle.minuska.specs.Function.{wrong_kind, interpret}
 use Rattle.minuska.specs.Rule.{updating}
 use Rattle.minuska.specs.Bridge.Walk.{looking}
 use Rattle.value.specs.declared.builtin.Root.{Root}
@@ -27,6 +27,11 @@ label_of r = label_at r.tag r.datum
 -- the two words of a leaf with this label
 unfoldable pub root_of : Label → Root
 root_of l = record { tag = tag_word l 0; datum = datum_word l }
+
+-- a number that fits a word, or the error
+abbrev pub number_term : Option ℤ → Term
+number_term None = wrong_kind
+number_term (Some z) = leaf (whole z)
 
 -- three arguments that are leaves
 abbrev pub leaves : Label → Label → Label → Forest
