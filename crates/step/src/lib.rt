@@ -14,7 +14,7 @@ ghost use Rattle.minuska.specs.Computed.Outcome.{table_check, configuration_chec
 ghost use Rattle.minuska.specs.Slice.{out_limit, write};
 ghost use Rattle.std.specs.Borrow.{sem};
 ghost use Rattle.table.specs.Index.{LeavesIndex, places_found};
-ghost use Rattle.step.specs.Apply.{SomeMatched, Instantiated};
+ghost use Rattle.step.specs.Apply.{MatchedHere, InstantiatedHere};
 ghost use Rattle.step.specs.Verdict.{VerdictIs};
 ghost use Rattle.step.specs.Among.{KeyFor, AmongIs};
 
@@ -233,8 +233,8 @@ fn write_within(
     places: &Places,
     out: &mut [i64],
 ) -> Result<Stepped, Refusal>
-    requires { SomeMatched table.words.now configuration.words.now rule places.now.starts places.now.ends }
-    ensures { Instantiated table.entry.words.now configuration.entry.words.now rule places.now.starts places.now.ends out.old out.new result }
+    requires { MatchedHere table configuration places.now rule }
+    ensures { InstantiatedHere table.entry configuration.entry places.now rule out.old out.new result }
 {
     let room = 2 * out_limit(out.len());
     if !rule::fits(table, rule, configuration, places, room) {
