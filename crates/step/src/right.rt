@@ -126,7 +126,9 @@ fn item_size(scope: &Scope, at: usize, end: usize) -> Sized
     }
 }
 
-// Whether there is room for the words of the items of a right.
+// Whether there is room for the words of the items of a right. Measuring and writing stay two walks: a trait over their loops would share eight lines, since neither
+// does at an item what the other does. An item as a value of its own, an enum that has a size and puts its words, was tried: it proves, but had 41 lines more here, 42
+// more of proofs, and 3 to 5 instructions more in a short step of 581 or 734.
 pub fn measure_right(scope: &Scope, right: Span, room: usize) -> bool
     requires { RestHere scope.now right.from right.to }
     ensures { MeasureRightIsHere scope.now right.from right.to room result }
