@@ -87,4 +87,13 @@ impl Row {
 }
 
 // The index of a table: a row for each of at most 256 rules. A table's check fills it; every routine on checked words is lent it.
-pub type Index = [Row; limits::MAX_RULES];
+#[derive(Clone, Copy)]
+pub struct Index {
+    pub rows: [Row; limits::MAX_RULES],
+}
+
+impl Index {
+    pub const EMPTY: Index = Index {
+        rows: [Row::EMPTY; limits::MAX_RULES],
+    };
+}

@@ -14,8 +14,8 @@ ghost use Rattle.replay.specs.Endings.{SetsUp, AcceptedContract};
 
 use crate::search::Search;
 use memory::frame;
-use minuska::limits::{MAX_ACTIONS, MAX_RULES};
-use minuska::{Refusal, ReplayAnswer, Row};
+use minuska::limits::MAX_ACTIONS;
+use minuska::{Index, Refusal, ReplayAnswer};
 use table::checked::Table;
 use term::configuration::Configuration;
 
@@ -99,8 +99,8 @@ pub fn replay_counted(
 ) -> Result<Option<usize>, Refusal>
     ensures { CountedContract table.now configuration.now log.now limit out.old choices.old work.old out.new choices.new work.new result }
 {
-    let mut index = [Row::EMPTY; MAX_RULES];
-    let (table, configuration) = step::checked(table, configuration, &mut index)?;
+    let mut index = Index::EMPTY;
+    let (table, configuration) = step::checked(&mut index, table, configuration)?;
     replay_checked(table, configuration, log, limit, out, choices, work)
 }
 

@@ -9,8 +9,8 @@ ghost use Rattle.run.specs.Sides.{by_side, other, StartsWith, StepsInto, StepsAc
 ghost use Rattle.run.specs.Allowed.{Allowed};
 ghost use Rattle.run.specs.Ending.{RunEnds, Finishes};
 
-use minuska::limits::{MAX_RULES, MAX_STEPS};
-use minuska::{Refusal, Row, RunAnswer, Stepped};
+use minuska::limits::MAX_STEPS;
+use minuska::{Index, Refusal, RunAnswer, Stepped};
 use std::ops::ControlFlow;
 use table::checked::Table;
 use term::configuration::Configuration;
@@ -215,7 +215,7 @@ pub fn run(
 ) -> Result<RunAnswer, Refusal>
     ensures { RunContract table.now configuration.now budget limit out.old spare.old out.new spare.new result }
 {
-    let mut index = [Row::EMPTY; MAX_RULES];
-    let (table, configuration) = step::checked(table, configuration, &mut index)?;
+    let mut index = Index::EMPTY;
+    let (table, configuration) = step::checked(&mut index, table, configuration)?;
     run_checked(table, configuration, budget, limit, out, spare)
 }

@@ -5,7 +5,7 @@ use mathlib.Core.Bool.{Bool, true, false, cond}
 use mathlib.Core.Option.{Option, none, some}
 use mathlib.Core.List.{List, [], ◌∷◌, ◌++◌}
 use Prim.Native.Nat.{ℕ, suc, ◌+◌, ◌≤◌, ◌<◌}
-use native.Mathlib.Nat.{add-zero, zero-add}
+use native.Mathlib.Nat.{add-zero}
 use native.Mathlib.Omega.{arith}
 use lib.IntN.{ℤ}
 use lib.ListN.{length, length-append}
@@ -25,10 +25,6 @@ use Rattle.step.specs.Conditions.{failed_by, SideWorth, StandingConditions, Some
 abbrev behind : ℕ → Option ℕ → Option ℕ
 behind n none = none
 behind n (some k) = some (n + k)
-
-behind_none : (o : Option ℕ) → behind 0 o ≡ o
-behind_none none = refl
-behind_none (some k) = ap some (zero-add k)
 
 behind_one : (k : ℕ) (o : Option ℕ) → behind k (o >>= λ m. some (suc m)) ≡ behind (k + 1) o
 behind_one k none = refl

@@ -18,7 +18,10 @@ use Rattle.minuska.proofs.Bridge.ItemLaw.{call_item}
 use Rattle.minuska.proofs.Bridge.PlaceLaw.{stands_first, stands_second, stands_word}
 use Rattle.value.specs.declared.Evaluated.{Evaluated}
 use Rattle.value.specs.Root.{ValueIn}
-use Rattle.value.specs.Value.{Within, IsValue}
+use Rattle.value.specs.Value.{value_words, Within}
+use Rattle.value.specs.Update.{plan_words, PlanContract}
+use Rattle.value.specs.declared.update.Plan.{Plan}
+use Rattle.std.specs.Prelude.{Option}
 use Rattle.value.specs.Evaluate.{HasValue, HaveValues, ExpressionIn, EvaluateContract, first_of, rest_of}
 use Rattle.value.proofs.ExpressionLaw.{encode_first, is_more, no_more}
 use Rattle.step.specs.Right.{Rest, SomeRest, LeadsOn, SizedIs, WordsAre, FittingItem, IsUpdate, PartsAre}
@@ -129,22 +132,28 @@ module _ (ws cs : List ℤ) (starts ends : List ℕ) (at end : ℕ) (below : at 
                 };
           }
 
--- ---- `update_size`, `write_update`: from the words that an update is worth, whatever terms its arguments' values are, to the item
+-- ---- `update_size`, `write_update`: from the plan, whatever terms the arguments' values are, to the item
 module _ (ws cs : List ℤ) (starts ends : List ℕ) (at end : ℕ) (p : Parts) (x : PartsAre ws cs starts ends at end p) where
   -- what the functions of `value::update` ask of the values
   pub parts_values : SomeRest ws cs starts ends at end → ValueIn ws cs p.dictionary × ValueIn ws cs p.key × Within ws cs p.term
   parts_values s = let g = x.is s.valuation s.terms s.words s.is in (record { term = g.dictionary; is = g.is_dictionary }, record { term = g.key; is = g.is_key }, g.is_term.within)
 
-  module _ (vs : List ℤ) (worth : (s t v : Term) → IsValue ws cs p.dictionary s → IsValue ws cs p.key t → IsValue ws cs p.term v → encode (single (interpret updating (cons s (cons t (single v))))) ≡ vs) where
-    pub parts_words : WordsAre ws cs starts ends at end vs p.next
+  module _ (plan : Option Plan) (k : PlanContract ws cs p.dictionary p.key plan) where
+    abbrev planned : List ℤ → List ℤ
+    planned vs = plan_words (value_words ws cs p.dictionary) plan vs
+
+    abbrev update_words : List ℤ
+    update_words = planned (value_words ws cs p.term)
+
+    pub parts_words : WordsAre ws cs starts ends at end update_words p.next
     parts_words =
-        record { is = λ ρ f us r. let g = x.is ρ f us r in subst (λ (ys : List ℤ). LeadsOn ws cs starts ends at end ρ us ys p.next) (worth g.dictionary g.key g.term g.is_dictionary g.is_key g.is_term) g.leads }
+        record { is = λ ρ f us r. let g = x.is ρ f us r in subst (λ (ys : List ℤ). LeadsOn ws cs starts ends at end ρ us ys p.next) (k.is g.dictionary g.key g.term g.is_dictionary g.is_key ∙ ap planned (sym g.is_term.words)) g.leads }
 
-    pub parts_sized : (n : ℕ) → n ≡ length vs → SizedIs ws cs starts ends at end (record { words = n; next = p.next })
-    parts_sized n e = record { is = λ ρ f us r. record { first = vs; many = e; leads = parts_words.is ρ f us r } }
+    pub parts_sized : (n : ℕ) → n ≡ length update_words → SizedIs ws cs starts ends at end (record { words = n; next = p.next })
+    parts_sized n e = record { is = λ ρ f us r. record { first = update_words; many = e; leads = parts_words.is ρ f us r } }
 
-    pub parts_room : (o room : ℕ) → FittingItem ws cs starts ends at end o room → o + length vs ≤ room
-    parts_room o room k =
-        let i = k.rest in
+    pub parts_room : (o room : ℕ) → FittingItem ws cs starts ends at end o room → o + length update_words ≤ room
+    parts_room o room f =
+        let i = f.rest in
         let g = parts_words.is i.valuation i.terms i.words i.is in
-        omega (arith, ap length g.parted, length-append vs g.words, k.fit)
+        omega (arith, ap length g.parted, length-append update_words g.words, f.fit)

@@ -8,6 +8,7 @@ use Rattle.minuska.specs.Rule.{is_expression, condition_words}
 use Rattle.minuska.specs.Computed.Value.{value}
 use Rattle.minuska.specs.Computed.Reasons.{failing}
 use Rattle.minuska.specs.Bridge.Place.{Stands, Binds}
+use Rattle.value.specs.declared.Scope.{Scope}
 
 -- the first of some facts that fails, as the code has it: none does, or its number
 abbrev pub failed_by : Option ℕ → Result (Unit {0}) ℕ
@@ -39,3 +40,11 @@ module _ (ws cs : List ℤ) (starts ends : List ℕ) where
 
   pub record HoldAllIs (at end : ℕ) (r : Result (Unit {0}) ℕ) : Type 0 where
     pub is : (ρ : Valuation) (conds : List SideCondition) → StandingConditions at end ρ conds → r ≡ failed_by (failing ρ conds)
+
+-- the same over a scope, as the code's contracts name it
+module _ (s : Scope) where
+  abbrev pub ConditionsHere : ℕ → ℕ → Type 0
+  ConditionsHere at end = SomeConditions s.table.now s.configuration.now s.places.now.starts s.places.now.ends at end
+
+  abbrev pub HoldAllIsHere : ℕ → ℕ → Result (Unit {0}) ℕ → Type 0
+  HoldAllIsHere at end r = HoldAllIs s.table.now s.configuration.now s.places.now.starts s.places.now.ends at end r

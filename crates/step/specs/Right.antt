@@ -12,6 +12,7 @@ use Rattle.minuska.specs.Bridge.Walk.{emit}
 use Rattle.minuska.specs.Bridge.Place.{Stands, Binds}
 use Rattle.term.specs.TermAt.{TermEnds}
 use Rattle.value.specs.declared.Evaluated.{Evaluated}
+use Rattle.value.specs.declared.Scope.{Scope}
 use Rattle.value.specs.Value.{value_words, Within, IsValue}
 use Rattle.value.specs.Copy.{PutContract}
 use Rattle.step.specs.declared.right.Parts.{Parts}
@@ -125,3 +126,32 @@ pub record OneNodeIs (ws : List ℤ) (at : ℕ) (r : Bool) : Type 0 where
   pub call : r ≡ true → get_or ws at (pos 0) ≡ pos 4
   pub expression : r ≡ true → NoUpdate ws at
   pub size : r ≡ true → (cs : List ℤ) (starts ends : List ℕ) (end : ℕ) (ρ : Valuation) (f : Forest) (us : List ℤ) → at < end → Rest ws cs starts ends at end ρ f us → (next : ℕ) → TermEnds ws at next → SizedOf ws cs starts ends at end ρ us (record { words = 2; next = next })
+
+-- THE SAME OVER A SCOPE, at its table, its configuration and its places, as the contracts of the code name it.
+module _ (s : Scope) where
+  abbrev pub RestHere : ℕ → ℕ → Type 0
+  RestHere at end = SomeRest s.table.now s.configuration.now s.places.now.starts s.places.now.ends at end
+
+  abbrev pub ItemIsHere : ℕ → ℕ → Evaluated → Type 0
+  ItemIsHere at end r = ItemIs s.table.now s.configuration.now s.places.now.starts s.places.now.ends at end r
+
+  abbrev pub PartsAreHere : ℕ → ℕ → Parts → Type 0
+  PartsAreHere at end r = PartsAre s.table.now s.configuration.now s.places.now.starts s.places.now.ends at end r
+
+  abbrev pub SizedIsHere : ℕ → ℕ → Sized → Type 0
+  SizedIsHere at end r = SizedIs s.table.now s.configuration.now s.places.now.starts s.places.now.ends at end r
+
+  abbrev pub MeasureRightIsHere : ℕ → ℕ → ℕ → Bool → Type 0
+  MeasureRightIsHere at end room r = MeasureRightIs s.table.now s.configuration.now s.places.now.starts s.places.now.ends at end room r
+
+  abbrev pub FittingItemHere : ℕ → ℕ → ℕ → ℕ → Type 0
+  FittingItemHere at end o room = FittingItem s.table.now s.configuration.now s.places.now.starts s.places.now.ends at end o room
+
+  abbrev pub WriteItemIsHere : ℕ → ℕ → List ℤ → ℕ → List ℤ → Written → Type 0
+  WriteItemIsHere at end out o out' r = WriteItemIs s.table.now s.configuration.now s.places.now.starts s.places.now.ends at end out o out' r
+
+  abbrev pub FittingRestHere : ℕ → ℕ → ℕ → Type 0
+  FittingRestHere at end room = FittingRest s.table.now s.configuration.now s.places.now.starts s.places.now.ends at end room
+
+  abbrev pub WriteRightIsHere : ℕ → ℕ → List ℤ → List ℤ → ℕ → Type 0
+  WriteRightIsHere at end out out' r = WriteRightIs s.table.now s.configuration.now s.places.now.starts s.places.now.ends at end out out' r

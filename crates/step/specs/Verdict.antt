@@ -11,6 +11,9 @@ use Rattle.minuska.specs.Bridge.Place.{Binds}
 use Rattle.step.specs.declared.rule.Obstacle.{Obstacle}
 use Rattle.step.specs.declared.rule.Obstacle.TheVariants.{Left, Condition}
 use Rattle.step.specs.Apply.{Candidate}
+use Rattle.term.specs.declared.configuration.Configuration.{Configuration}
+use Rattle.term.specs.declared.places.Places.{Places}
+use Rattle.table.specs.declared.checked.Table as checked
 
 -- an obstacle as the code has it
 abbrev pub obstacle_of : Reason → Obstacle
@@ -32,3 +35,7 @@ pub record VerdictIs (ws cs : List ℤ) (n : ℕ) (r : Result (Unit {0}) Obstacl
 pub record JudgeIs (ws cs : List ℤ) (n : ℕ) (starts' ends' : List ℕ) (r : Result (Unit {0}) Obstacle) : Type 0 where
   pub verdict : VerdictIs ws cs n r
   pub binds : (rule : Rule) (g : Term) (ρ : Valuation) → Candidate ws cs n rule g → try_match (single rule.left) (single g) unbound ≡ some ρ → Binds cs starts' ends' ρ
+
+-- the same over a checked table, a configuration and places, as the code's contracts name it
+abbrev pub JudgeIsHere : checked.Table → Configuration → Places → ℕ → Result (Unit {0}) Obstacle → Type 0
+JudgeIsHere t c p n r = JudgeIs t.words.now c.words.now n p.starts p.ends r

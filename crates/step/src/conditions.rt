@@ -1,13 +1,13 @@
 // A rule's conditions, one after the other.
-ghost use Rattle.step.specs.Conditions.{SomeConditions, HoldAllIs};
+ghost use Rattle.step.specs.Conditions.{ConditionsHere, HoldAllIsHere};
 
 use term::Span;
 use value::Scope;
 
 // Whether all conditions that stand in a part of the table hold, or the number, from 0, of the first that fails.
 pub fn hold_all(scope: &Scope, conditions: Span) -> Result<(), usize>
-    requires { SomeConditions scope.now.table.now scope.now.configuration.now scope.now.places.now.starts scope.now.places.now.ends conditions.from conditions.to }
-    ensures { HoldAllIs scope.now.table.now scope.now.configuration.now scope.now.places.now.starts scope.now.places.now.ends conditions.from conditions.to result }
+    requires { ConditionsHere scope.now conditions.from conditions.to }
+    ensures { HoldAllIsHere scope.now conditions.from conditions.to result }
 {
     let mut i = conditions.from;
     let mut held = 0;

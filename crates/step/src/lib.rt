@@ -11,29 +11,33 @@ ghost use Rattle.std.specs.Prelude.{◌≡◌, ◌≤◌, IfOk, OnOk, IfErr, Ok,
 ghost use Rattle.minuska.specs.Contract.{MatchRuleContract, ReasonsContract, StepByRuleContract, StepContract};
 ghost use Rattle.minuska.specs.Bridge.Place.{Names, Positions};
 ghost use Rattle.minuska.specs.Computed.Outcome.{table_check, configuration_check, or_second};
-ghost use Rattle.minuska.specs.Slice.{out_limit};
-ghost use Rattle.step.specs.Apply.{SomeMatched, Instantiated};
+ghost use Rattle.minuska.specs.Slice.{out_limit, write};
+ghost use Rattle.std.specs.Borrow.{sem};
+ghost use Rattle.table.specs.Index.{LeavesIndex, places_found};
+ghost use Rattle.step.specs.Apply.{MatchedHere, InstantiatedHere};
 ghost use Rattle.step.specs.Verdict.{VerdictIs};
 ghost use Rattle.step.specs.Among.{KeyFor, AmongIs};
 
 use crate::rule::Obstacle;
 use minuska::limits::{MAX_CONFIGURATION_WORDS, MAX_NODES, MAX_RULES};
-use minuska::{Index, MatchAnswer, Refusal, Row, Stepped};
+use minuska::{Index, MatchAnswer, Refusal, Stepped};
 use table::checked::Table;
 use term::configuration::Configuration;
 use term::places::Places;
 
-// Refusals 1 and 2, in order; else the words as what they are.
+// Refusals 1 and 2, in order; else the words as what they are. The index is the first parameter, as in `Table::check`.
 pub fn checked<'a>(
+    index: &'a mut Index,
     table: &'a [i64],
     configuration: &'a [i64],
-    index: &'a mut Index,
 ) -> Result<(Table<'a>, Configuration<'a>), Refusal>
+    ensures* leaves { sem 𝓛 (LeavesIndex table.now index.entry) }
+    ensures index { IfOk result (λ both. both.0.index.now.rows ≡ write (places_found table.now) index.old.rows) }
     ensures words { IfOk result (λ both. (both.0.words.now ≡ table.now) × (both.1.words.now ≡ configuration.now)) }
     ensures good { OnOk result (or_second (table_check table.now) (configuration_check configuration.now) ≡ Ok tt) }
     ensures bad { IfErr result (λ refusal. or_second (table_check table.now) (configuration_check configuration.now) ≡ Err refusal) }
 {
-    let table = Table::check(table, index)?;
+    let table = Table::check(index, table)?;
     let configuration = Configuration::check(configuration)?;
     Ok((table, configuration))
 }
@@ -42,8 +46,8 @@ pub fn checked<'a>(
 pub fn match_rule(table: &[i64], configuration: &[i64], rule: usize) -> Result<MatchAnswer, Refusal>
     ensures { MatchRuleContract table.now configuration.now rule result }
 {
-    let mut index = [Row::EMPTY; MAX_RULES];
-    let (table, configuration) = checked(table, configuration, &mut index)?;
+    let mut index = Index::EMPTY;
+    let (table, configuration) = checked(&mut index, table, configuration)?;
     Ok(compare(table, configuration, rule))
 }
 
@@ -55,8 +59,8 @@ pub fn reasons(
 ) -> Result<Option<usize>, Refusal>
     ensures { ReasonsContract table.now configuration.now list.old list.new result }
 {
-    let mut index = [Row::EMPTY; MAX_RULES];
-    let (table, configuration) = checked(table, configuration, &mut index)?;
+    let mut index = Index::EMPTY;
+    let (table, configuration) = checked(&mut index, table, configuration)?;
     list_reasons(table, configuration, list)
 }
 
@@ -69,8 +73,8 @@ pub fn step_by_rule(
 ) -> Result<Option<Stepped>, Refusal>
     ensures { StepByRuleContract table.now configuration.now rule out.old out.new result }
 {
-    let mut index = [Row::EMPTY; MAX_RULES];
-    let (table, configuration) = checked(table, configuration, &mut index)?;
+    let mut index = Index::EMPTY;
+    let (table, configuration) = checked(&mut index, table, configuration)?;
     by_rule(table, configuration, rule, out)
 }
 
@@ -82,8 +86,8 @@ pub fn step(
 ) -> Result<Option<Stepped>, Refusal>
     ensures { StepContract table.now configuration.now out.old out.new result }
 {
-    let mut index = [Row::EMPTY; MAX_RULES];
-    let (table, configuration) = checked(table, configuration, &mut index)?;
+    let mut index = Index::EMPTY;
+    let (table, configuration) = checked(&mut index, table, configuration)?;
     earliest(table, configuration, out)
 }
 
@@ -229,8 +233,8 @@ fn write_within(
     places: &Places,
     out: &mut [i64],
 ) -> Result<Stepped, Refusal>
-    requires { SomeMatched table.words.now configuration.words.now rule places.now.starts places.now.ends }
-    ensures { Instantiated table.entry.words.now configuration.entry.words.now rule places.now.starts places.now.ends out.old out.new result }
+    requires { MatchedHere table configuration places.now rule }
+    ensures { InstantiatedHere table.entry configuration.entry places.now rule out.old out.new result }
 {
     let room = 2 * out_limit(out.len());
     if !rule::fits(table, rule, configuration, places, room) {

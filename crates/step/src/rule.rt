@@ -1,8 +1,8 @@
 // One rule at a configuration: its left, its conditions, the words of its right.
 ghost use Rattle.std.specs.Prelude.{◌≡◌, length};
 ghost use Rattle.minuska.specs.Bridge.Place.{Names};
-ghost use Rattle.step.specs.Apply.{SomeMatched, MatchIs, HoldIs, FitsIs, WordsFit, WriteIs};
-ghost use Rattle.step.specs.Verdict.{JudgeIs};
+ghost use Rattle.step.specs.Apply.{MatchedHere, MatchIsHere, HoldIsHere, FitsIsHere, WordsFitHere, WriteIsHere};
+ghost use Rattle.step.specs.Verdict.{JudgeIsHere};
 
 use table::checked::Table;
 use term::configuration::Configuration;
@@ -26,7 +26,7 @@ pub fn judge(
     places: &mut Places,
 ) -> Result<(), Obstacle>
     requires { Names table.words.now rule }
-    ensures { JudgeIs table.entry.words.now configuration.entry.words.now rule places.new.starts places.new.ends result }
+    ensures { JudgeIsHere table.entry configuration.entry places.new rule result }
 {
     compare_left(table, rule, configuration, places).map_err(Obstacle::Left)?;
     hold_conditions(table, rule, configuration, places).map_err(Obstacle::Condition)
@@ -40,7 +40,7 @@ fn compare_left(
     places: &mut Places,
 ) -> Result<(), usize>
     requires { Names table.words.now rule }
-    ensures { MatchIs table.entry.words.now configuration.entry.words.now rule places.new.starts places.new.ends result }
+    ensures { MatchIsHere table.entry configuration.entry places.new rule result }
 {
     let left = table.left(rule);
     crate::matching::match_left(table.words, left, configuration, places)
@@ -53,8 +53,8 @@ fn hold_conditions(
     configuration: Configuration,
     places: &Places,
 ) -> Result<(), usize>
-    requires { SomeMatched table.words.now configuration.words.now rule places.now.starts places.now.ends }
-    ensures { HoldIs table.entry.words.now configuration.entry.words.now rule places.now.starts places.now.ends result }
+    requires { MatchedHere table configuration places.now rule }
+    ensures { HoldIsHere table.entry configuration.entry places.now rule result }
 {
     let conditions = table.conditions(rule);
     let scope = Scope {
@@ -74,8 +74,8 @@ pub fn fits(
     places: &Places,
     room: usize,
 ) -> bool
-    requires { SomeMatched table.words.now configuration.words.now rule places.now.starts places.now.ends }
-    ensures { FitsIs table.entry.words.now configuration.entry.words.now rule places.now.starts places.now.ends room result }
+    requires { MatchedHere table configuration places.now rule }
+    ensures { FitsIsHere table.entry configuration.entry places.now rule room result }
 {
     let sizes = table.sizes(rule);
     let right = table.right(rule);
@@ -99,9 +99,9 @@ pub fn write_successor(
     places: &Places,
     out: &mut [i64],
 ) -> usize
-    requires matched { SomeMatched table.words.now configuration.words.now rule places.now.starts places.now.ends }
-    requires words_fit { WordsFit table.words.now configuration.words.now rule places.now.starts places.now.ends (length out.old) }
-    ensures { WriteIs table.entry.words.now configuration.entry.words.now rule places.now.starts places.now.ends out.old out.new result }
+    requires matched { MatchedHere table configuration places.now rule }
+    requires words_fit { WordsFitHere table configuration places.now rule (length out.old) }
+    ensures { WriteIsHere table.entry configuration.entry places.now rule out.old out.new result }
 {
     let right = table.right(rule);
     let scope = Scope {

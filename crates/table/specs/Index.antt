@@ -10,6 +10,10 @@ use Rattle.minuska.specs.Computed.Read.{number_below, read_rule}
 use Rattle.minuska.specs.Computed.Outcome.{table_check}
 use Rattle.minuska.specs.Bridge.Place.{Stands, left_from, key_of, first_rule, rule_places, Indexed}
 use Rattle.minuska.specs.declared.Row.{Row}
+use Rattle.minuska.specs.declared.Index.{Index}
+use Rattle.minuska.specs.contracts.Index.{the_row}
+use Rattle.std.specs.Prelude.{⊤}
+use Rattle.std.specs.Borrow.{MutBor, Fml, follows_so}
 use Rattle.table.specs.declared.rule.Parts.{Parts}
 
 -- the rows of the rules that words start with, at most k of them, up to the first that is not accepted
@@ -71,3 +75,8 @@ pub record IndexTableContract (table : List ℤ) (index index' : List Row) (r : 
   pub answer : r ≡ table_check table
   pub leaves : index' ≡ write (places_found table) index
   pub indexed : r ≡ Ok tt → Indexed table index'
+
+-- The same of an index that a checked table goes on borrowing: what it holds when that borrow has ended, for every answer.
+abbrev pub LeavesIndex : List ℤ → MutBor Index → Fml
+LeavesIndex table index =
+    follows_so the_row the_row index.ghost_name none (λ _ _. ⊤) (λ last. last.rows ≡ write (places_found table) index.now.rows)

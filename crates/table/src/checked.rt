@@ -3,7 +3,9 @@ ghost use Rattle.std.specs.Prelude.{◌≡◌, ◌≤◌, IfOk, OnOk, IfErr, Ok,
 ghost use Rattle.minuska.specs.Bridge.Place.{Indexed, Names, RuleCountIs, ActionIs, OrderedIs, Positions, SeekIs, left_words, right_words, conditions_words, PartIs, SizesAre};
 ghost use Rattle.minuska.specs.Computed.Outcome.{table_check};
 ghost use Rattle.table.specs.Checked.{Indexed-prop};
-ghost use Rattle.table.specs.Index.{RowIs};
+ghost use Rattle.std.specs.Borrow.{sem};
+ghost use Rattle.minuska.specs.Slice.{write};
+ghost use Rattle.table.specs.Index.{RowIs, LeavesIndex, places_found};
 
 use crate::index::{RightSizes, place};
 use minuska::{Index, Refusal, Row};
@@ -14,13 +16,16 @@ use term::Span;
 pub struct Table<'a> {
     pub words: &'a [i64],
     pub index: &'a Index,
-    pub ghost indexed: { Indexed words.now index.now } by { Indexed-prop words.now index.now },
+    pub ghost indexed: { Indexed words.now index.now.rows } by { Indexed-prop words.now index.now.rows },
 }
 
 impl<'a> Table<'a> {
-    // Checks the words, and fills the index.
-    pub fn check(words: &'a [i64], index: &'a mut Index) -> Result<Self, Refusal>
+    // Checks the words, and fills the index. The index comes first, since the check proves of a first parameter alone, and of no array, what it holds when a
+    // borrow in the answer has ended.
+    pub fn check(index: &'a mut Index, words: &'a [i64]) -> Result<Self, Refusal>
+        ensures* leaves { sem 𝓛 (LeavesIndex words.now index.entry) }
         ensures table { IfOk result (λ t. t.words.now ≡ words.now) }
+        ensures index { IfOk result (λ t. t.index.now.rows ≡ write (places_found words.now) index.old.rows) }
         ensures good { OnOk result (table_check words.now ≡ Ok tt) }
         ensures bad { IfErr result (λ r. table_check words.now ≡ Err r) }
     {
@@ -40,7 +45,7 @@ impl<'a> Table<'a> {
         requires { Names self.words.now rule }
         ensures { RowIs self.entry.words.now rule result.now }
     {
-        &self.index[rule]
+        &self.index.rows[rule]
     }
 
     // A rule's action; 0 of a number that names none.
@@ -119,7 +124,7 @@ impl<'a> Table<'a> {
         ensures { SeekIs self.entry.words.now root from to result }
     {
         for i in from..to {
-            let key = usize::from(self.index[self.ordered(i)].key);
+            let key = usize::from(self.index.rows[self.ordered(i)].key);
             if key == root || key == 0 {
                 return i;
             }

@@ -6,11 +6,11 @@ use crate::index::{FIRST_RULE, row_from};
 use crate::number::number_below;
 use crate::rule::rule_parts;
 use minuska::limits::{MAX_RULES, MAX_TABLE_WORDS};
-use minuska::{Index, Refusal};
+use minuska::{Refusal, Row};
 
 // The check. A rule's row is written once it is accepted.
-pub fn fill(table: &[i64], index: &mut Index) -> Result<(), Refusal>
-    ensures { IndexTableContract table.now index.old index.new result }
+pub fn fill(table: &[i64], rows: &mut [Row; MAX_RULES]) -> Result<(), Refusal>
+    ensures { IndexTableContract table.now rows.old rows.new result }
 {
     let n = table.len();
     if n == 0 || MAX_TABLE_WORDS < n {
@@ -20,7 +20,7 @@ pub fn fill(table: &[i64], index: &mut Index) -> Result<(), Refusal>
     let mut at = FIRST_RULE;
     for rule in 0..count {
         let parts = rule_parts(table, at).ok_or(Refusal::BadTable)?;
-        index[rule] = row_from(table, at, parts);
+        rows[rule] = row_from(table, at, parts);
         at = parts.end;
     }
     if at < n {

@@ -17,20 +17,19 @@ ghost use Rattle.minuska.specs.Contract.{CheckTableContract};
 ghost use Rattle.table.specs.Index.{IndexTableContract};
 
 use crate::fill::fill;
-use minuska::limits::MAX_RULES;
-use minuska::{Index, Refusal, Row};
+use minuska::{Index, Refusal};
 
 // Checks a table.
 pub fn check_table(table: &[i64]) -> Result<(), Refusal>
     ensures { CheckTableContract table.now result }
 {
-    let mut index = [Row::EMPTY; MAX_RULES];
+    let mut index = Index::EMPTY;
     index_table(table, &mut index)
 }
 
 // The same, and the index.
 pub fn index_table(table: &[i64], index: &mut Index) -> Result<(), Refusal>
-    ensures { IndexTableContract table.now index.old index.new result }
+    ensures { IndexTableContract table.now index.old.rows index.new.rows result }
 {
-    fill(table, index)
+    fill(table, &mut index.rows)
 }

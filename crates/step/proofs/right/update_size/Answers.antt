@@ -1,8 +1,5 @@
 -- The size of the words that the plan says.
-use Rattle.std.proofs.Common.{List, ℤ, sym, ap, ◌∙◌}
 use Rattle.step.proofs.UpdateLaw.{parts_values, parts_sized}
-use Rattle.value.specs.Value.{value_words}
-use Rattle.value.specs.Update.{plan_words}
 use Rattle.step.proofs.right.update_size.Goals as goal
 
 pub plan-plan-requires : goal.plan-plan-requires
@@ -12,6 +9,4 @@ pub plan_size-requires : goal.plan_size-requires
 plan_size-requires c = let q = parts_values _ _ _ _ _ _ _ c.update_parts-p.ensures c.requires.0 in (q.0, q.2, c.plan-plan.ensures.fits)
 
 pub returns : goal.returns
-returns c =
-    parts_sized _ _ _ _ _ _ _ c.update_parts-p.ensures _
-    (λ a b t x y z. c.plan-plan.ensures.is a b t x y ∙ ap (λ (vs : List ℤ). plan_words (value_words c.args.scope.now.table.now c.args.scope.now.configuration.now c.update_parts-p.result.dictionary) c.plan-plan.result vs) (sym z.words)) _ c.plan_size.ensures
+returns c = parts_sized _ _ _ _ _ _ _ c.update_parts-p.ensures _ c.plan-plan.ensures _ c.plan_size.ensures

@@ -28,7 +28,7 @@ pub loop-rule-init : goal.loop-rule-init
 loop-rule-init c =
     let e = c.in_ok-count.ensures.ok_part in
     let k : Some c.in_ok-count.count ≡ answered (number_below 257 (get_or c.args.table.now 0 (pos 0))) = search rules in
-    starts _ _ _ (omega arith) (omega arith) k c.told-index
+    starts _ _ _ (omega arith) (omega arith) k c.told-rows
 
 pub returns-in_err-parts : goal.returns-in_err-parts
 returns-in_err-parts c =
