@@ -49,11 +49,11 @@ module _ (ws cs : List ℤ) (budget limit : ℕ) (out spare : List ℤ) where
   outcome = run_outcome ws cs budget limit (length out) (length spare)
 
   pub ended : (r : Ended) (out₁ spare₁ out₂ spare₂ : List ℤ) → RunEnds ws cs budget limit out spare out₁ spare₁ r →
-      Finishes (2 * limit) (take (2 * r.nodes) (by_side r.side cs out₁ spare₁)) out₁ spare₁ out₂ spare₂ → RunContract ws cs budget limit out spare out₂ spare₂ (Ok r.answer)
+      Finishes (2 * limit) (take (2 * r.last.nodes) (by_side r.last.side cs out₁ spare₁)) out₁ spare₁ out₂ spare₂ → RunContract ws cs budget limit out spare out₂ spare₂ (Ok r.answer)
   ended r out₁ spare₁ out₂ spare₂ p q =
       let xs = encode (single p.result.last) in
-      let l = length-take-le (2 * r.nodes) (by_side r.side cs out₁ spare₁) p.within in
-      let m : length xs ≡ 2 * r.nodes = ap length (sym p.last) ∙ l in
+      let l = length-take-le (2 * r.last.nodes) (by_side r.last.side cs out₁ spare₁) p.within in
+      let m : length xs ≡ 2 * r.last.nodes = ap length (sym p.last) ∙ l in
       let f = p.fits in
       run_contract ws cs budget limit out spare out₂ spare₂ (Ok r.answer) (p.answer ∙ ap run_answer (sym p.is))
       (q.leaves ∙ ap (λ (y : List ℤ). write_filled (2 * limit) y out₁) p.last ∙ same_filled (2 * limit) xs out out₁ (omega arith) p.out_behind ∙
