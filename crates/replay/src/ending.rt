@@ -5,7 +5,8 @@ ghost use Rattle.minuska.specs.Computed.Step.{order};
 ghost use Rattle.replay.specs.Reading.{table_of};
 ghost use Rattle.memory.specs.Layout.{base, frame_at, position_of};
 ghost use Rattle.replay.specs.Stack.{chosen};
-ghost use Rattle.replay.specs.Turns.{position_at, Begun, SlicesFit};
+ghost use Rattle.replay.specs.Turns.{position_at, Begun};
+ghost use Rattle.replay.specs.Standing.{Fits};
 ghost use Rattle.replay.specs.Endings.{restored, FoundWithin, EndContract};
 
 use crate::search::Search;
@@ -50,7 +51,7 @@ pub fn conclude(
     choices: &mut [u16],
     work: &mut [i64],
 ) -> Result<Option<usize>, Refusal>
-    requires fits { SlicesFit search.now.room search.now.log.now out.old work.old × (length search.now.log.now ≤ length choices.old) }
+    requires fits { Fits search.now out.old work.old × (length search.now.log.now ≤ length choices.old) }
     requires within { FoundWithin found search.now.rules (length search.now.log.now) search.now.room work.old }
     ensures { EndContract search.now.table.words.now found (length search.now.log.now) search.now.room out.old choices.old work.old out.new choices.new work.new result }
 {
