@@ -28,7 +28,7 @@ position_of frame = nat_of (get_or frame (length frame - 1) (pos 0))
 unfoldable pub words_of : List ℤ → List ℤ
 words_of frame = take (length_of frame) frame
 
--- a frame whose configuration may be looked at: it lies in the frame
+-- a frame whose configuration may be looked at: it lies in the frame (why no type holds this: src/frame)
 abbrev pub OwnFits : List ℤ → Type 0
 OwnFits frame = length_of frame + 2 ≤ length frame
 
