@@ -57,12 +57,8 @@ impl Search<'_> {
         ensures found { IfSome result (Sought (table_of self.now.table.words.now) self.now.rules action from) }
         ensures none { IfNone result (Skipped (table_of self.now.table.words.now) action from self.now.rules) }
     {
-        for position in from..self.rules {
-            if self.table.action(self.table.ordered(position)) == action {
-                return Some(position);
-            }
-        }
-        None
+        let carries = |at: &usize| self.table.action(self.table.ordered(*at)) == action;
+        (from..self.rules).find(carries)
     }
 
     // The rule at a position, tried on a frame's configuration; its successor is made in the first `room` words of out.
