@@ -51,14 +51,19 @@ impl Search<'_> {
     ghost use Rattle.replay.specs.Turns.{Framed, MemoryOf, Skipped, Sought, TryContract, SearchContract};
     ghost use Rattle.replay.specs.Standing.{Fits, Sound};
 
-    // The first position from `from` on whose rule carries the action.
+    // The first position from `from` on whose rule carries the action. A `for`: `find` over the range proves, but takes a jump more for each rule that it finds, 280 ns
+    // a step for 269 (three counters, 30 actions).
     fn seek(&self, action: u16, from: usize) -> Option<usize>
         requires { from ≤ self.now.rules }
         ensures found { IfSome result (Sought (table_of self.now.table.words.now) self.now.rules action from) }
         ensures none { IfNone result (Skipped (table_of self.now.table.words.now) action from self.now.rules) }
     {
-        let carries = |at: &usize| self.table.action(self.table.ordered(*at)) == action;
-        (from..self.rules).find(carries)
+        for position in from..self.rules {
+            if self.table.action(self.table.ordered(position)) == action {
+                return Some(position);
+            }
+        }
+        None
     }
 
     // The rule at a position, tried on a frame's configuration; its successor is made in the first `room` words of out.

@@ -1,19 +1,21 @@
-use Rattle.std.proofs.Common.{ℕ, ◌≤◌, length, arith, rules}
-use Rattle.std.specs.declared.ops.Range.{Range}
-use Rattle.std.proofs.lemmas.Iterator.{first_from_Range}
+use Rattle.std.proofs.Common.{◌<◌, length, arith}
 use Rattle.minuska.specs.Computed.Step.{order}
 use Rattle.replay.specs.Reading.{table_of}
 use Rattle.replay.proofs.ReadingLaw.{checked_is}
-use Rattle.replay.proofs.SeekLaw.{Acts, ActsNot, sought}
+use Rattle.replay.proofs.SeekLaw.{seek_found, seek_on}
 use Rattle.replay.proofs.search.Search.seek.Goals as goal
 
-pub returns : goal.returns
-returns c =
+pub returns-then-action-clause-found : goal.returns-then-action-clause-found
+returns-then-action-clause-found c =
     let s = c.args.self.now in
-    let ws = s.table.words.now in
-    let good = checked_is s.table in
-    let ends : s.rules ≤ length (order (table_of ws)) = omega (arith, s.rules_are) in
-    let range : Range ℕ = record { start = c.args.from; end = s.rules } in
-    let b = sought ws good c.args.action c.args.from s.rules ends c.find.result
-    (first_from_Range range _ _ c.find.result (Acts ws good c.args.action) (ActsNot ws good c.args.action) c.find.ensures.ran (λ x q h. search rules) (λ x q h. search rules)) in
-    record { found = b.0; none = b.1 }
+    let l = c.loop-position in
+    let here : l.position < length (order (table_of s.table.words.now)) = omega (arith, s.rules_are) in
+    rw s.rules_are
+    (seek_found s.table.words.now (checked_is s.table) c.args.action c.args.from l.position c.ordered.result c.action.result l.invariant here c.ordered.ensures c.action.ensures (omega arith) c.if-action.true)
+
+pub loop-position-preserved : goal.loop-position-preserved
+loop-position-preserved c =
+    let s = c.args.self.now in
+    let l = c.loop-position in
+    let here : l.position < length (order (table_of s.table.words.now)) = omega (arith, s.rules_are) in
+    seek_on s.table.words.now (checked_is s.table) c.args.action c.args.from l.position c.ordered.result c.action.result l.invariant here c.ordered.ensures c.action.ensures c.if-action.false
