@@ -170,45 +170,30 @@ pub forgets_none : (room : ℕ) (work : List ℤ) → Forgets room 0 work work
 forgets_none room work = record { wide = refl; behind = refl; empty = λ i h. absurd (let f : ⊥ = omega arith in f) }
 
 module _ (room : ℕ) (work w : List ℤ) (i : ℕ) (fits : base room i + (room + 2) ≤ length work) (f : Forgets room i work w) where
-  w' : List ℤ
-  w' = set w (base room i + room) (pos 0)
-
-  long' : length w' ≡ length work
-  unfolding w'
-  long' = length-set w (base room i + room) (pos 0) ∙ f.wide
-
-  kept : (k : ℕ) → k < i → frame_at room w' k ≡ frame_at room w k
-  unfolding w'
-  kept k h =
-      let b = frame_before room k i h in
-      sym (part_take (base room k) (room + 2) (base room i) w' b)
-      ∙ ap (λ (l : List ℤ). take (room + 2) (drop (base room k) l)) (take-set-le (base room i) w (base room i + room) (pos 0) (omega arith))
-      ∙ part_take (base room k) (room + 2) (base room i) w b
-
-  here : length_of (frame_at room w' i) ≡ 0
-  unfolding length_of w'
-  here =
-      let e : length (frame_at room w' i) ≡ room + 2 = frame_long room w' i (omega (arith, long')) in
-      let m : room + 2 - 2 ≡ room = omega arith in
-      ap (λ (n : ℕ). nat_of (get_or (frame_at room w' i) (n - 2) (pos 0))) e
-      ∙ ap (λ (n : ℕ). nat_of (get_or (frame_at room w' i) n (pos 0))) m
-      ∙ ap nat_of (get_or-take (room + 2) (drop (base room i) w') room (pos 0) (omega arith) ∙ get_or-drop (base room i) w' room (pos 0) ∙ get_or-set_same w (base room i + room) (pos 0) (pos 0) (omega (arith, f.wide)))
-
   pub forgets_more : Forgets room (i + 1) work (set w (base room i + room) (pos 0))
-  unfolding w'
   forgets_more =
       let b = frame_before room i (i + 1) (omega arith) in
       record {
-        wide = long';
+        wide = length-set w (base room i + room) (pos 0) ∙ f.wide;
         behind = drop-set-lt (base room (i + 1)) w (base room i + room) (pos 0) (omega arith) ∙ drop_later (base room i) (base room (i + 1)) w work f.behind (omega arith);
         empty = λ k h. at k h (dec_lt k i);
       }
     where
-      at : (k : ℕ) → k < i + 1 → Dec (k < i) → length_of (frame_at room w' k) ≡ 0
-      at k h (yes l) = ap length_of (kept k l) ∙ f.empty k l
+      at : (k : ℕ) → k < i + 1 → Dec (k < i) → get_or (set w (base room i + room) (pos 0)) (base room k + room) (pos 0) ≡ pos 0
+      at k h (yes l) = let b = frame_before room k i l in get_or-set_other w (base room i + room) (base room k + room) (pos 0) (pos 0) (omega arith) ∙ f.empty k l
       at k h (no l) =
           let e : i ≡ k = omega arith in
-          ap (λ (x : ℕ). length_of (frame_at room w' x)) (sym e) ∙ here
+          ap (λ (x : ℕ). get_or (set w (base room i + room) (pos 0)) (base room x + room) (pos 0)) (sym e) ∙ get_or-set_same w (base room i + room) (pos 0) (pos 0) (omega (arith, f.wide))
+
+-- none of them holds a configuration
+pub forgets_all : (room m : ℕ) (work w : List ℤ) → Forgets room m work w → base room m ≤ length work → (i : ℕ) → i < m → length_of (frame_at room w i) ≡ 0
+unfolding length_of
+forgets_all room m work w f fits i h =
+    let e : length (frame_at room w i) ≡ room + 2 = frame_long room w i (omega (arith, frame_before room i m h, f.wide)) in
+    let n : room + 2 - 2 ≡ room = omega arith in
+    ap (λ (k : ℕ). nat_of (get_or (frame_at room w i) (k - 2) (pos 0))) e
+    ∙ ap (λ (k : ℕ). nat_of (get_or (frame_at room w i) k (pos 0))) n
+    ∙ ap nat_of (get_or-take (room + 2) (drop (base room i) w) room (pos 0) (omega arith) ∙ get_or-drop (base room i) w room (pos 0) ∙ f.empty i h)
 
 -- ---- a frame that is lent, by the places between which it lies
 module _ (room : ℕ) (work : List ℤ) (i start end : ℕ) (from : start ≡ base room i) (to : end ≡ base room i + (room + 2)) where

@@ -28,7 +28,7 @@ position_of frame = nat_of (get_or frame (length frame - 1) (pos 0))
 unfoldable pub words_of : List ℤ → List ℤ
 words_of frame = take (length_of frame) frame
 
--- a frame whose configuration may be looked at: it lies in the frame
+-- a frame whose configuration may be looked at: it lies in the frame (why no type holds this: src/frame)
 abbrev pub OwnFits : List ℤ → Type 0
 OwnFits frame = length_of frame + 2 ≤ length frame
 
@@ -46,8 +46,8 @@ pub record Enters (frame frame' : List ℤ) (c : List ℤ) : Type 0 where
   pub words : words_of frame' ≡ c
   pub position : position_of frame' ≡ 0
 
--- no configuration in any of the m frames
+-- the length of no configuration in each of the m frames
 pub record Forgets (room m : ℕ) (work work' : List ℤ) : Type 0 where
   pub wide : length work' ≡ length work
   pub behind : drop (base room m) work' ≡ drop (base room m) work
-  pub empty : (i : ℕ) → i < m → length_of (frame_at room work' i) ≡ 0
+  pub empty : (i : ℕ) → i < m → get_or work' (base room i + room) (pos 0) ≡ pos 0

@@ -28,7 +28,6 @@ fn mixed(words: &[i64]) -> u32 {
 // The place of the slot for a mix, where the table takes the frame's own configuration and one of `words` words.
 #[tactic(auto, using(crate::proofs::MemoryLaw::slot_number), unfolding(crate::specs::Memory::width_of, crate::specs::Memory::slots_of))]
 fn slot_at(frame: &[i64], mix: u32, words: usize) -> Option<usize>
-    requires { 2 ≤ length frame.now }
     ensures { IfSome result (Slot frame.now words) }
 {
     if frame.len() < LEAST {
@@ -63,7 +62,7 @@ fn stands(frame: &[i64], from: usize, configuration: &[i64]) -> bool
 // Whether the table has a configuration.
 #[tactic(auto, using(crate::proofs::MemoryLaw::found_entry))]
 pub fn has(frame: &[i64], configuration: &[i64]) -> bool
-    requires { (2 ≤ length frame.now) × (0 < length configuration.now) }
+    requires { 0 < length configuration.now }
     ensures { result ≡ true → Entry frame.now configuration.now }
 {
     slot_at(frame, mixed(configuration), configuration.len()).is_some_and(|place| stands(
@@ -87,7 +86,7 @@ fn empty(frame: &mut [i64], width: usize, count: usize)
 // No table.
 #[tactic(auto, using(crate::proofs::PutLaw::shut_opens))]
 fn shut(frame: &mut [i64])
-    requires { (least ≤ length frame.old) × OwnFits frame.old }
+    requires { least ≤ length frame.old }
     ensures { Opens frame.old frame.new }
 {
     let at = frame.len() - 3;
@@ -96,7 +95,7 @@ fn shut(frame: &mut [i64])
 
 // The table set up, for configurations of up to `most` words and somewhat more. No table where there is no room for a slot.
 fn lay_out(frame: &mut [i64], most: usize)
-    requires { (least ≤ length frame.old) × (most ≤ length frame.old) × (length_of frame.old ≤ most) × OwnFits frame.old }
+    requires { (least ≤ length frame.old) × (most ≤ length frame.old) × (length_of frame.old ≤ most) }
     ensures { Opens frame.old frame.new }
 {
     let room = frame.len() - 4;
@@ -140,6 +139,7 @@ fn put_own(frame: &mut [i64], words: usize)
 }
 
 // Before a configuration of `words` words is entered in the frame: its own is kept, where a table is wanted and has room for both. Else there is no table.
+// `wanted` stays a flag: with two functions the test of the frame's length would stand in both.
 pub fn keep(frame: &mut [i64], wanted: bool, words: usize)
     requires { (words ≤ length frame.old) × OwnFits frame.old }
     ensures { Keeping frame.old frame.new words }

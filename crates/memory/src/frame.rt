@@ -1,5 +1,6 @@
 // A frame: words for a configuration, their count, and the next position to try in the order of rules. Each function takes a frame's own words.
-// Its layout is known here and in specs/Layout alone.
+// Its layout is known here and in specs/Layout alone. That a frame has its last two words, or holds its configuration (`OwnFits`), is asked in clauses, and no type holds it: a frame is
+// cut out of the work area anew at each turn, to be read or to be written, so there would be two types, one with a `&` and one with a `&mut`, made and unmade at each call.
 ghost use Rattle.std.specs.Prelude.{◌≡◌, ◌+◌, ◌^◌, ◌≤◌, ◌<◌, length};
 ghost use Rattle.memory.specs.Layout.{max_room, base, length_of, position_of, words_of, OwnFits, advanced, entered};
 

@@ -44,7 +44,7 @@ pub enum MatchAnswer {
     Differs(usize),
 }
 
-// A run, with its count of steps; `Over` is refusal 6.
+// A run, with its count of steps; `Over` is refusal 6. `Over` is no `Err`: document 01's 6 of a run also says k.
 #[derive(Clone, Copy, Debug, PartialEq, Eq)]
 pub enum RunAnswer {
     Stuck(usize),

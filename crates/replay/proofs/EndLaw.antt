@@ -23,7 +23,7 @@ use Rattle.minuska.proofs.ShutLaw.{replay_is, replay_out_reproduced, replay_out_
 use Rattle.replay.specs.Reading.{table_of, term_of}
 use Rattle.words.proofs.PartLaw.{drop_later}
 use Rattle.words.proofs.CopyLaw.{paste_start, same_zeros}
-use Rattle.memory.specs.Layout.{base, frame_at, entered, Enters, OwnFits}
+use Rattle.memory.specs.Layout.{base, frame_at, length_of, entered, Enters, OwnFits}
 use Rattle.replay.specs.Counted.{counted_answer}
 use Rattle.replay.specs.Stack.{chosen}
 use Rattle.replay.specs.Turns.{term_at, position_at, SoundFrames, Held, MemoryOf, state_of, SlicesFit, SearchSays, SearchContract}
@@ -32,7 +32,7 @@ use Rattle.replay.proofs.ReadingLaw.{is_term}
 use Rattle.replay.proofs.StackLaw as Stack
 use Rattle.replay.proofs.StackLaw.{chosen_long}
 use Rattle.replay.proofs.RecallLaw.{recalls_start}
-use Rattle.memory.proofs.LayoutLaw.{frame_before, frame_long, empty_spare, enters, entered_long, with_long, with_behind}
+use Rattle.memory.proofs.LayoutLaw.{frame_before, frame_long, empty_spare, enters, entered_long, with_long, with_behind, forgets_all}
 use Rattle.replay.proofs.FrameLaw.{in_top, in_position, entered_held, in_sound}
 
 -- reproduced: the last configuration's words in out
@@ -90,8 +90,11 @@ module _ (ws : List ℤ) (rules room : ℕ) (cs : List ℤ) (log : List ℕ) (ou
     abbrev frame : List ℤ
     frame = frame_at room work₁ 0
 
+    pasted_long : length (paste work last (take room out) room) ≡ length work
+    pasted_long = length-paste work last (take room out) room (omega (arith, rm.work_fits)) (omega (arith, kept_long))
+
     long₁ : length work₁ ≡ length work
-    long₁ = up.forgets.wide ∙ length-paste work last (take room out) room (omega (arith, rm.work_fits)) (omega (arith, kept_long))
+    long₁ = up.forgets.wide ∙ pasted_long
 
     one_frame : base room 0 + (room + 2) ≤ last
     one_frame = frame_before room 0 (length log) some
@@ -111,10 +114,14 @@ module _ (ws : List ℤ) (rules room : ℕ) (cs : List ℤ) (log : List ℕ) (ou
     opened_long : length opened ≡ length work
     opened_long = ap length up.is ∙ with_long room work₁ 0 (entered frame cs) fits₁ wide₁ ∙ long₁
 
+    none_in : (i : ℕ) → i < length log → length_of (frame_at room work₁ i) ≡ 0
+    none_in i h =
+        forgets_all room (length log) (paste work last (take room out) room) work₁ up.forgets (omega (arith, rm.work_fits, pasted_long)) i h
+
     own_empty : (i : ℕ) → i < length log → OwnFits (frame_at room work₁ i)
     own_empty i h =
         let w = frame_long room work₁ i (omega (arith, frame_before room i (length log) h, rm.work_fits, long₁)) in
-        empty_spare (frame_at room work₁ i) (omega arith) (up.forgets.empty i h)
+        empty_spare (frame_at room work₁ i) (omega arith) (none_in i h)
 
     pub opened_sound : SoundFrames rules room (length log) opened 0
     opened_sound =
@@ -138,8 +145,8 @@ module _ (ws : List ℤ) (rules room : ℕ) (cs : List ℤ) (log : List ℕ) (ou
             (subst (λ (w : List ℤ). Held room (length log) w 0 i u) up.is h)
 
         none_there : (i : ℕ) (u : Term) → Held room (length log) work₁ 0 i u → ⊥
-        none_there i u (inl h) = let e = up.forgets.empty i h.1 in let k = h.2 in omega arith
-        none_there i u (inr h) = let e = up.forgets.empty i h.2 in let k = h.3.some in omega arith
+        none_there i u (inl h) = let e = none_in i h.1 in let k = h.2 in omega arith
+        none_there i u (inr h) = let e = none_in i h.2 in let k = h.3.some in omega arith
 
         none_held : (i : ℕ) (u : Term) → Held room (length log) opened 0 i u → ⊥
         none_held i u (inl h) = none_there i u (before i u h.0 (inl h))

@@ -65,10 +65,6 @@ module _ {A : Type 0} (size : A → ℕ) (limit : ℕ) (next : ℕ → ℕ → A
   unfolding EndedAt
   ended_later b d u h = later b (search size limit next rules (drop d log) u) not_reproduced (h ∙ sym (mark_not b))
 
-  passed_later : (b : Bool) (d : ℕ) (t : A) (p : ℕ) → Past b d t p → Past true d t p
-  unfolding TriedInVain
-  passed_later b d t p h = later b (Rest d t 0) (Rest d t p) h
-
   waits_later : (b : Bool) (d : ℕ) (t : A) (p : ℕ) (u : A) → Waiting b d t p u → Waiting true d t p u
   unfolding Waits
   waits_later b d t p u h = later b (Rest d t 0) (or_later (prepend (get_or rules (pred p) 0) (go d u)) (Rest d t p)) h

@@ -5,4 +5,5 @@ pub mod Stack
 -- What the routines promise.
 pub mod Counted
 pub mod Turns
+pub mod Standing
 pub mod Endings

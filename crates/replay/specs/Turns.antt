@@ -61,7 +61,8 @@ MemoryOf t room log work over d = Recalls node_count (out_limit room) (next t) (
 unfoldable pub left_of : Table → ℕ → List ℕ → List ℤ → ℕ → ℕ
 left_of t room log work d = left (next t) (order t) log (term_at room work) (position_at room work) (suc d)
 
--- ---- what the search asks of the slices that are lent for it
+-- ---- what the search asks of the slices that are lent for it. No struct of the two holds this: lent by `&mut` at each turn, it would have every contract say, in place of this
+-- clause, that both references and the search are still the same.
 pub record SlicesFit (room : ℕ) (log : List ℕ) (out work : List ℤ) : Type 0 where
   pub out_fits : room ≤ length out
   pub work_fits : length log * (room + 2) + (room + 2) ≤ length work

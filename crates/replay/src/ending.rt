@@ -5,13 +5,13 @@ ghost use Rattle.minuska.specs.Computed.Step.{order};
 ghost use Rattle.replay.specs.Reading.{table_of};
 ghost use Rattle.memory.specs.Layout.{base, frame_at, position_of};
 ghost use Rattle.replay.specs.Stack.{chosen};
-ghost use Rattle.replay.specs.Turns.{position_at, Begun, SlicesFit};
+ghost use Rattle.replay.specs.Turns.{position_at, Begun};
+ghost use Rattle.replay.specs.Standing.{Fits};
 ghost use Rattle.replay.specs.Endings.{restored, FoundWithin, EndContract};
 
 use crate::search::Search;
 use memory::frame;
 use minuska::Refusal;
-use std::ops::Range;
 
 // The rule that a frame tried last.
 fn choice_at(search: &Search, frame: &[i64]) -> u16
@@ -27,22 +27,13 @@ fn write_choices(search: &Search, choices: &mut [u16], work: &[i64])
     requires begun { (i : ℕ) → i < length search.now.log.now → Begun search.now.rules (frame_at search.now.room work.now i) }
     ensures { choices.new ≡ chosen (order (table_of search.now.table.words.now)) (position_at search.now.room work.now) (length search.now.log.now) ++ drop (length search.now.log.now) choices.old }
 {
-    for i in 0..search.log.len() {
-        choices[i] = choice_at(search, &work[frame::place(search.room, i)]);
+    let chosen = &mut choices[..search.log.len()];
+    for (i, choice) in chosen.iter_mut().enumerate() {
+        *choice = choice_at(search, &work[frame::place(search.room, i)]);
     }
 }
 
-// Out gets back what was kept for it in the last frame, from word `words` on, and the work area is cleared.
-fn give_back(out: &mut [i64], work: &mut [i64], last: Range<usize>, room: usize, words: usize)
-    requires { (last.start + (room + 2) ≡ last.end) × (last.end ≤ length work.old) × (room ≤ length out.old) × (words ≤ room) }
-    ensures out { out.new ≡ restored room words last.start out.old work.old }
-    ensures work { work.new ≡ write_zeros last.end work.old }
-{
-    words::copy(out, words, &work[last.start + words..last.start + room]);
-    words::clear(&mut work[..last.end]);
-}
-
-// What the search has found, in nodes.
+// What the search has found, in nodes. Out gets back what was kept for it in the last frame, behind the words of a path's end, and the work area is cleared.
 pub fn conclude(
     search: &Search,
     found: Result<Option<usize>, Refusal>,
@@ -50,7 +41,7 @@ pub fn conclude(
     choices: &mut [u16],
     work: &mut [i64],
 ) -> Result<Option<usize>, Refusal>
-    requires fits { SlicesFit search.now.room search.now.log.now out.old work.old × (length search.now.log.now ≤ length choices.old) }
+    requires fits { Fits search.now out.old work.old × (length search.now.log.now ≤ length choices.old) }
     requires within { FoundWithin found search.now.rules (length search.now.log.now) search.now.room work.old }
     ensures { EndContract search.now.table.words.now found (length search.now.log.now) search.now.room out.old choices.old work.old out.new choices.new work.new result }
 {
@@ -60,6 +51,8 @@ pub fn conclude(
         words = made;
     }
     let last = frame::place(search.room, search.log.len());
-    give_back(out, work, last, search.room, words);
+    let kept = &work[last.start + words..last.start + search.room];
+    words::copy(out, words, kept);
+    words::clear(&mut work[..last.end]);
     Ok(found?.map(|words| words / 2))
 }

@@ -9,7 +9,7 @@ ghost use Rattle.minuska.specs.Contract.{ReplayContract};
 ghost use Rattle.minuska.specs.Computed.Outcome.{replay_short};
 ghost use Rattle.memory.specs.Layout.{max_room, base};
 ghost use Rattle.replay.specs.Counted.{CountedContract};
-ghost use Rattle.replay.specs.Turns.{SlicesFit};
+ghost use Rattle.replay.specs.Standing.{Fits};
 ghost use Rattle.replay.specs.Endings.{SetsUp, AcceptedContract};
 
 use crate::search::Search;
@@ -38,7 +38,7 @@ fn replay_accepted(
     choices: &mut [u16],
     work: &mut [i64],
 ) -> Result<Option<usize>, Refusal>
-    requires fits { SlicesFit search.now.room search.now.log.now out.old work.old }
+    requires fits { Fits search.now out.old work.old }
     requires small { (length configuration.words.now ≤ search.now.room) × (length search.now.log.now ≤ length choices.old) }
     ensures { AcceptedContract search.now.table.words.now configuration.entry.words.now search.now.log.now search.now.room out.old choices.old work.old out.new choices.new work.new result }
 {

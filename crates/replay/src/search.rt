@@ -39,10 +39,20 @@ pub struct Search<'a> {
     pub ghost narrow: { room ≤ max_room },
 }
 
-impl Search<'_> {
-    ghost use Rattle.replay.specs.Turns.{position_at, Framed, SoundFrames, MemoryOf, SlicesFit, Skipped, Sought, TryContract, MadeWithin, Descends, Settles, TurnContract, SearchContract};
+// Where a search stands: at a depth whose action the log has.
+#[derive(Clone, Copy)]
+struct Standing<'a> {
+    search: &'a Search<'a>,
+    depth: usize,
+    ghost deep: { depth < length search.now.log.now },
+}
 
-    // The first position from `from` on whose rule carries the action.
+impl Search<'_> {
+    ghost use Rattle.replay.specs.Turns.{Framed, MemoryOf, Skipped, Sought, TryContract, SearchContract};
+    ghost use Rattle.replay.specs.Standing.{Fits, Sound};
+
+    // The first position from `from` on whose rule carries the action. A `for`: `find` over the range proves, but takes a jump more for each rule that it finds, 280 ns
+    // a step for 269 (three counters, 30 actions).
     fn seek(&self, action: u16, from: usize) -> Option<usize>
         requires { from ≤ self.now.rules }
         ensures found { IfSome result (Sought (table_of self.now.table.words.now) self.now.rules action from) }
@@ -74,79 +84,11 @@ impl Search<'_> {
         step::by_rule(self.table, configuration, rule, &mut out[..self.room])
     }
 
-    // A successor, the first `words` words of out: it is entered, unless it is the last, or is known and the search remembers.
-    fn descend(&self, words: usize, depth: usize, out: &[i64], work: &mut [i64]) -> Turned
-        requires fits { SlicesFit self.now.room self.now.log.now out.now work.old × (depth < length self.now.log.now) }
-        requires some { (0 < words) × (words ≤ self.now.room) }
-        requires spare { (i : ℕ) → i < length self.now.log.now → OwnFits (frame_at self.now.room work.old i) }
-        ensures { Descends words (length self.now.log.now) self.now.room self.now.remember depth out.now work.old work.new result }
-    {
-        let next = depth + 1;
-        if next == self.log.len() {
-            return Turned::Made(words);
-        }
-        let successor = &out[..words];
-        let tabled = memory::pays(self.remember, self.log.len() - next);
-        let frame = &mut work[frame::place(self.room, next)];
-        if memory::known(frame, self.remember, tabled, successor) {
-            return Turned::On(depth);
-        }
-        memory::enter(frame, tabled, successor);
-        Turned::On(next)
-    }
-
-    // What a rule's answer comes to.
-    fn settle(
-        &self,
-        answer: Result<Option<Stepped>, Refusal>,
-        depth: usize,
-        out: &[i64],
-        work: &mut [i64],
-    ) -> Turned
-        requires fits { SlicesFit self.now.room self.now.log.now out.now work.old × (depth < length self.now.log.now) }
-        requires made { MadeWithin answer self.now.room (length out.now) }
-        requires spare { (i : ℕ) → i < length self.now.log.now → OwnFits (frame_at self.now.room work.old i) }
-        ensures { Settles answer (length self.now.log.now) self.now.room self.now.remember depth out.now work.old work.new result }
-    {
-        match answer {
-            Ok(Some(stepped)) => self.descend(2 * stepped.nodes, depth, out, work),
-            Ok(None) => Turned::On(depth),
-            Err(_) => Turned::Beyond,
-        }
-    }
-
-    // The rule at a position, which `seek` has found, is tried at a depth.
-    fn go_on(&self, depth: usize, position: usize, out: &mut [i64], work: &mut [i64]) -> Turned
-        requires fits { SlicesFit self.now.room self.now.log.now out.old work.old × (depth < length self.now.log.now) }
-        requires sought { Sought (table_of self.now.table.words.now) self.now.rules (get_or self.now.log.now depth 0) (position_at self.now.room work.old depth) position }
-        requires sound { SoundFrames self.now.rules self.now.room (length self.now.log.now) work.old depth }
-        ensures { TurnContract self.now.table.words.now self.now.rules self.now.room self.now.log.now depth out.old work.old out.new work.new result }
-    {
-        let frame = &mut work[frame::place(self.room, depth)];
-        let answer = self.try_at(position, frame, out);
-        frame::set_position(frame, position + 1);
-        self.settle(answer, depth, out, work)
-    }
-
-    // One turn at a depth: the next rule there that carries the action, or back by one.
-    fn turn(&self, depth: usize, out: &mut [i64], work: &mut [i64]) -> Turned
-        requires fits { SlicesFit self.now.room self.now.log.now out.old work.old × (depth < length self.now.log.now) }
-        requires sound { SoundFrames self.now.rules self.now.room (length self.now.log.now) work.old depth }
-        ensures { TurnContract self.now.table.words.now self.now.rules self.now.room self.now.log.now depth out.old work.old out.new work.new result }
-    {
-        let from = frame::position(&work[frame::place(self.room, depth)]);
-        match self.seek(self.log[depth], from) {
-            Some(position) => self.go_on(depth, position, out, work),
-            None if depth == 0 => Turned::Exhausted,
-            None => Turned::On(depth - 1),
-        }
-    }
-
     // The search, from a configuration that is entered at depth 0: the words of the last configuration of a path, which stands at the start of out; refusal 6 where
     // there is none and a successor above the limit was met.
     pub fn find(&self, out: &mut [i64], work: &mut [i64]) -> Result<Option<usize>, Refusal>
-        requires fits { SlicesFit self.now.room self.now.log.now out.old work.old × (0 < length self.now.log.now) }
-        requires sound { SoundFrames self.now.rules self.now.room (length self.now.log.now) work.old 0 }
+        requires fits { Fits self.now out.old work.old × (0 < length self.now.log.now) }
+        requires sound { Sound self.now work.old 0 }
         requires memory { MemoryOf (table_of self.now.table.words.now) self.now.room self.now.log.now work.old false 0 }
         ensures { SearchContract self.now.table.words.now self.now.rules self.now.room self.now.log.now out.old work.old out.new work.new result }
     {
@@ -154,13 +96,90 @@ impl Search<'_> {
         let mut over = false;
         // A loop: no range has its turns, which go down and back up.
         loop {
-            match self.turn(depth, out, work) {
+            let here = Standing {
+                search: &*self,
+                depth,
+            };
+            match here.turn(out, work) {
                 Turned::On(next) => depth = next,
                 Turned::Beyond => over = true,
                 Turned::Made(words) => return Ok(Some(words)),
                 Turned::Exhausted if over => return Err(Refusal::OverLimit),
                 Turned::Exhausted => return Ok(None),
             }
+        }
+    }
+}
+
+impl Standing<'_> {
+    ghost use Rattle.replay.specs.Turns.{MadeWithin};
+    ghost use Rattle.replay.specs.Standing.{Fits, Spare, Sound, DescendsFrom, SettlesAt, SoughtAt, Turns};
+
+    // A successor, the first `words` words of out: it is entered, unless it is the last, or is known and the search remembers.
+    fn descend(self, words: usize, out: &[i64], work: &mut [i64]) -> Turned
+        requires fits { Fits self.search.now out.now work.old }
+        requires some { (0 < words) × (words ≤ self.search.now.room) }
+        requires spare { Spare self.search.now work.old }
+        ensures { DescendsFrom self.entry words out.now work.old work.new result }
+    {
+        let search = self.search;
+        let next = self.depth + 1;
+        if next == search.log.len() {
+            return Turned::Made(words);
+        }
+        let successor = &out[..words];
+        let tabled = memory::pays(search.remember, search.log.len() - next);
+        let frame = &mut work[frame::place(search.room, next)];
+        if memory::known(frame, search.remember, tabled, successor) {
+            return Turned::On(self.depth);
+        }
+        memory::enter(frame, tabled, successor);
+        Turned::On(next)
+    }
+
+    // What a rule's answer comes to.
+    fn settle(
+        self,
+        answer: Result<Option<Stepped>, Refusal>,
+        out: &[i64],
+        work: &mut [i64],
+    ) -> Turned
+        requires fits { Fits self.search.now out.now work.old }
+        requires made { MadeWithin answer self.search.now.room (length out.now) }
+        requires spare { Spare self.search.now work.old }
+        ensures { SettlesAt self.entry answer out.now work.old work.new result }
+    {
+        match answer {
+            Ok(Some(stepped)) => self.descend(2 * stepped.nodes, out, work),
+            Ok(None) => Turned::On(self.depth),
+            Err(_) => Turned::Beyond,
+        }
+    }
+
+    // The rule at a position, which `seek` has found, is tried at a depth.
+    fn go_on(self, position: usize, out: &mut [i64], work: &mut [i64]) -> Turned
+        requires fits { Fits self.search.now out.old work.old }
+        requires sought { SoughtAt self work.old position }
+        requires sound { Sound self.search.now work.old self.depth }
+        ensures { Turns self.entry out.old work.old out.new work.new result }
+    {
+        let frame = &mut work[frame::place(self.search.room, self.depth)];
+        let answer = self.search.try_at(position, frame, out);
+        frame::set_position(frame, position + 1);
+        self.settle(answer, out, work)
+    }
+
+    // One turn at a depth: the next rule there that carries the action, or back by one.
+    fn turn(self, out: &mut [i64], work: &mut [i64]) -> Turned
+        requires fits { Fits self.search.now out.old work.old }
+        requires sound { Sound self.search.now work.old self.depth }
+        ensures { Turns self.entry out.old work.old out.new work.new result }
+    {
+        let from = frame::position(&work[frame::place(self.search.room, self.depth)]);
+        match self.search.seek(self.search.log[self.depth], from) {
+            Some(position) => self.go_on(position, out, work),
+            None if self.depth == 0 => Turned::Exhausted,
+            None => Turned::On(self.depth - 1),
         }
     }
 }

@@ -1,17 +1,17 @@
 -- What a run leaves is what its contract says: the last configuration, zeros, and the words behind them; or, refused, every word.
 use mathlib.Core.Path.{◌≡◌, sym, ◌∙◌, ap}
-use mathlib.Core.List.{List, ◌++◌, append_assoc}
-use Prim.Native.Nat.{ℕ, ◌+◌, ◌-◌, ◌*◌, ◌≤◌}
+use mathlib.Core.List.{List, ◌++◌}
+use Prim.Native.Nat.{ℕ, ◌-◌, ◌*◌, ◌≤◌}
 use native.Mathlib.Omega.{arith}
 use lib.IntN.{ℤ, pos}
-use lib.ListN.{length, take, drop, replicate, length-append, length-replicate, length-drop}
-use lib.Seq.{length-take-le, take_at, drop_at, drop-drop}
+use lib.ListN.{length, take, drop, replicate, length-append, length-replicate}
+use lib.Seq.{length-take-le}
 use Rattle.std.specs.Prelude.{Ok, Err}
 use Rattle.minuska.specs.declared.Refusal.{Refusal}
 use Rattle.minuska.specs.Term.{single}
 use Rattle.minuska.specs.Word.{encode}
 use Rattle.minuska.specs.Answer.{Outcome, refused, RunResult}
-use Rattle.minuska.specs.Slice.{write, write_filled, run_answer, run_out, run_spare}
+use Rattle.minuska.specs.Slice.{write_filled, run_answer, run_out, run_spare}
 use Rattle.minuska.specs.Contract.{RunContract}
 use Rattle.minuska.specs.Computed.Outcome.{run_outcome}
 use Rattle.minuska.proofs.ContractLaw.{run_contract}
@@ -28,32 +28,17 @@ filled_length n xs h = length-append xs (replicate (n - length xs) (pos 0)) ∙ 
 same_filled : (n : ℕ) (xs old old' : List ℤ) → length xs ≤ n → drop n old' ≡ drop n old → write_filled n xs old' ≡ write_filled n xs old
 same_filled n xs old old' h e = rw (filled_length n xs h, e)
 
--- words at the start, then zeros from their end up to n
-module _ (n e : ℕ) (xs old : List ℤ) (l : length xs ≡ e) (h : e ≤ n) (w : n ≤ length old) where
-  filled : xs ++ (replicate (n - e) (pos 0) ++ drop (n - e) (drop e old)) ≡ write_filled n xs old
-  filled =
-      let m : e + (n - e) ≡ n = omega arith in
-      rw (drop-drop (n - e) e old, m, filled_length n xs (omega arith), l) (sym (append_assoc xs (replicate (n - e) (pos 0)) (drop n old)))
-
-  pub zeros_behind : (now zs : List ℤ) → now ≡ write xs old → zs ≡ replicate (length (take (n - e) (drop e now))) (pos 0) →
-      take e now ++ (zs ++ drop (n - e) (drop e now)) ≡ write_filled n xs old
-  zeros_behind now zs p q =
-      let t : take e now ≡ xs = rw p (take_at xs (drop (length xs) old) e l) in
-      let d : drop e now ≡ drop e old = rw p (drop_at xs (drop (length xs) old) e l ∙ rw l) in
-      let k : n - e ≤ length (drop e old) = omega (arith, length-drop e old) in
-      rw (q, t, d, length-take-le (n - e) (drop e old) k) filled
-
 -- ---- the contract
 module _ (ws cs : List ℤ) (budget limit : ℕ) (out spare : List ℤ) where
   abbrev outcome : Outcome RunResult
   outcome = run_outcome ws cs budget limit (length out) (length spare)
 
   pub ended : (r : Ended) (out₁ spare₁ out₂ spare₂ : List ℤ) → RunEnds ws cs budget limit out spare out₁ spare₁ r →
-      Finishes (2 * limit) (take (2 * r.nodes) (by_side r.side cs out₁ spare₁)) out₁ spare₁ out₂ spare₂ → RunContract ws cs budget limit out spare out₂ spare₂ (Ok r.answer)
+      Finishes (2 * limit) (take (2 * r.last.nodes) (by_side r.last.side cs out₁ spare₁)) out₁ spare₁ out₂ spare₂ → RunContract ws cs budget limit out spare out₂ spare₂ (Ok r.answer)
   ended r out₁ spare₁ out₂ spare₂ p q =
       let xs = encode (single p.result.last) in
-      let l = length-take-le (2 * r.nodes) (by_side r.side cs out₁ spare₁) p.within in
-      let m : length xs ≡ 2 * r.nodes = ap length (sym p.last) ∙ l in
+      let l = length-take-le (2 * r.last.nodes) (by_side r.last.side cs out₁ spare₁) p.within in
+      let m : length xs ≡ 2 * r.last.nodes = ap length (sym p.last) ∙ l in
       let f = p.fits in
       run_contract ws cs budget limit out spare out₂ spare₂ (Ok r.answer) (p.answer ∙ ap run_answer (sym p.is))
       (q.leaves ∙ ap (λ (y : List ℤ). write_filled (2 * limit) y out₁) p.last ∙ same_filled (2 * limit) xs out out₁ (omega arith) p.out_behind ∙

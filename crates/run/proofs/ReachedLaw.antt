@@ -130,7 +130,7 @@ module _ (ws cs : List ℤ) (budget limit : ℕ) (out₀ spare₀ : List ℤ) wh
           }
 
       -- THE END
-      pub reached_end : (answer : RunAnswer) → judged r k budget ≡ Break answer → RunEnds ws cs budget limit out₀ spare₀ out' spare' (record { answer = answer; side = side; nodes = nodes })
+      pub reached_end : (answer : RunAnswer) → judged r k budget ≡ Break answer → RunEnds ws cs budget limit out₀ spare₀ out' spare' (record { answer = answer; last = record { side = side; nodes = nodes } })
       reached_end answer j =
           let e = ends k budget s.table limit s.term (step s.table limit s.term) answer refl (rw answers at j) in
           let c = current_keeps side cs out spare out' spare' t.keeps in

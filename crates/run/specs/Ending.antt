@@ -13,9 +13,9 @@ pub record RunEnds (table config : List ℤ) (budget limit : ℕ) (out spare out
   pub result : RunResult
   pub is : run_outcome table config budget limit (length out) (length spare) ≡ gives result
   pub answer : Ok r.answer ≡ run_answer (gives result)
-  pub last : take (2 * r.nodes) (by_side r.side config out' spare') ≡ encode (single result.last)
-  pub within : 2 * r.nodes ≤ length (by_side r.side config out' spare')
-  pub fits : r.nodes ≤ limit
+  pub last : take (2 * r.last.nodes) (by_side r.last.side config out' spare') ≡ encode (single result.last)
+  pub within : 2 * r.last.nodes ≤ length (by_side r.last.side config out' spare')
+  pub fits : r.last.nodes ≤ limit
   pub out_behind : drop (2 * limit) out' ≡ drop (2 * limit) out
   pub spare_behind : drop (2 * limit) spare' ≡ drop (2 * limit) spare
 

@@ -23,12 +23,18 @@ enum Side {
     Spare,
 }
 
-// The answer, and where the last configuration stands.
+// The current configuration: where it stands, and its nodes.
+#[derive(Clone, Copy)]
+struct Current {
+    side: Side,
+    nodes: usize,
+}
+
+// The answer, and the last configuration.
 #[derive(Clone, Copy)]
 struct Ended {
     answer: RunAnswer,
-    side: Side,
-    nodes: usize,
+    last: Current,
 }
 
 // The side that a step from this one writes.
@@ -63,19 +69,18 @@ fn step_into(
 fn step_across(
     table: Table,
     configuration: Configuration,
-    side: Side,
-    nodes: usize,
+    current: Current,
     words: usize,
     out: &mut [i64],
     spare: &mut [i64],
 ) -> Result<Option<Stepped>, Refusal>
-    requires { StartsWith (by_side side configuration.words.now out.old spare.old) nodes × (words ≤ length out.old) × (words ≤ length spare.old) }
-    ensures { StepsAcross table.entry.words.now configuration.entry.words.now side nodes words out.old spare.old out.new spare.new result }
+    requires { StartsWith (by_side current.side configuration.words.now out.old spare.old) current.nodes × (words ≤ length out.old) × (words ≤ length spare.old) }
+    ensures { StepsAcross table.entry.words.now configuration.entry.words.now current.side current.nodes words out.old spare.old out.new spare.new result }
 {
-    match side {
-        Side::Initial => step_into(table, configuration.words, nodes, out, words),
-        Side::Out => step_into(table, out, nodes, spare, words),
-        Side::Spare => step_into(table, spare, nodes, out, words),
+    match current.side {
+        Side::Initial => step_into(table, configuration.words, current.nodes, out, words),
+        Side::Out => step_into(table, out, current.nodes, spare, words),
+        Side::Spare => step_into(table, spare, current.nodes, out, words),
     }
 }
 
@@ -96,7 +101,8 @@ fn judge(
     }
 }
 
-// The steps, up to the end.
+// The steps, up to the end. `out`, `spare`, `budget` and `limit` are no struct: the entry point is lent them one by one, each step reads one slice and writes the other,
+// and a budget counts steps where a limit counts nodes.
 fn advance(
     table: Table,
     configuration: Configuration,
@@ -109,20 +115,23 @@ fn advance(
     ensures { RunEnds table.entry.words.now configuration.entry.words.now budget limit out.old spare.old out.new spare.new result }
 {
     let words = 2 * limit;
-    let mut side = Side::Initial;
-    let mut nodes = configuration.words.len() / 2;
+    let mut current = Current {
+        side: Side::Initial,
+        nodes: configuration.words.len() / 2,
+    };
     for k in 0..=budget {
-        let answer = step_across(table, configuration, side, nodes, words, out, spare);
+        let answer = step_across(table, configuration, current, words, out, spare);
         match judge(answer, k, budget) {
-            ControlFlow::Continue(made) => {
-                side = other_side(side);
-                nodes = made;
+            ControlFlow::Continue(nodes) => {
+                current = Current {
+                    side: other_side(current.side),
+                    nodes,
+                };
             }
             ControlFlow::Break(answer) => {
                 return Ended {
                     answer,
-                    side,
-                    nodes,
+                    last: current,
                 };
             }
         }
@@ -131,12 +140,12 @@ fn advance(
 }
 
 // The last configuration is brought to the start of out, if it does not stand there.
-fn bring(side: Side, nodes: usize, configuration: &[i64], out: &mut [i64], spare: &[i64])
-    requires { (2 * nodes ≤ length (by_side side configuration.now out.old spare.now)) × (2 * nodes ≤ length out.old) }
-    ensures { out.new ≡ write (take (2 * nodes) (by_side side configuration.now out.old spare.now)) out.old }
+fn bring(last: Current, configuration: &[i64], out: &mut [i64], spare: &[i64])
+    requires { (2 * last.nodes ≤ length (by_side last.side configuration.now out.old spare.now)) × (2 * last.nodes ≤ length out.old) }
+    ensures { out.new ≡ write (take (2 * last.nodes) (by_side last.side configuration.now out.old spare.now)) out.old }
 {
-    let end = 2 * nodes;
-    match side {
+    let end = 2 * last.nodes;
+    match last.side {
         Side::Initial => words::copy(out, 0, &configuration[..end]),
         Side::Out => {}
         Side::Spare => words::copy(out, 0, &spare[..end]),
@@ -144,19 +153,12 @@ fn bring(side: Side, nodes: usize, configuration: &[i64], out: &mut [i64], spare
 }
 
 // What a run leaves: the last configuration and zeros in out, zeros in spare.
-fn finish(
-    side: Side,
-    nodes: usize,
-    words: usize,
-    configuration: &[i64],
-    out: &mut [i64],
-    spare: &mut [i64],
-)
-    requires { (2 * nodes ≤ length (by_side side configuration.now out.old spare.old)) × (2 * nodes ≤ words) × (words ≤ length out.old) × (words ≤ length spare.old) }
-    ensures { Finishes words (take (2 * nodes) (by_side side configuration.now out.old spare.old)) out.old spare.old out.new spare.new }
+fn finish(last: Current, words: usize, configuration: &[i64], out: &mut [i64], spare: &mut [i64])
+    requires { (2 * last.nodes ≤ length (by_side last.side configuration.now out.old spare.old)) × (2 * last.nodes ≤ words) × (words ≤ length out.old) × (words ≤ length spare.old) }
+    ensures { Finishes words (take (2 * last.nodes) (by_side last.side configuration.now out.old spare.old)) out.old spare.old out.new spare.new }
 {
-    bring(side, nodes, configuration, out, spare);
-    let end = 2 * nodes;
+    bring(last, configuration, out, spare);
+    let end = 2 * last.nodes;
     words::clear(&mut out[end..words]);
     words::clear(&mut spare[..words]);
 }
@@ -181,9 +183,7 @@ pub fn run_accepted(
     ensures { RunContract table.entry.words.now configuration.entry.words.now budget limit out.old spare.old out.new spare.new (Ok result) }
 {
     let ended = advance(table, configuration, budget, limit, out, spare);
-    let words = 2 * limit;
-    let side = ended.side;
-    finish(side, ended.nodes, words, configuration.words, out, spare);
+    finish(ended.last, 2 * limit, configuration.words, out, spare);
     ended.answer
 }
 

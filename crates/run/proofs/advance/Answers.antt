@@ -19,13 +19,13 @@ step_across-answer-requires c =
     let w = roomy (length a.configuration.words.now / 2) a.budget a.limit (length a.out.now) (length a.spare.now) c.requires in
     let o = l.invariant.out_long in
     let s = l.invariant.spare_long in
-    (reached_holds a.table.words.now a.configuration.words.now a.budget a.limit a.out.now a.spare.now l.side l.nodes l.k l.out l.spare l.invariant, omega arith, omega arith)
+    (reached_holds a.table.words.now a.configuration.words.now a.budget a.limit a.out.now a.spare.now l.current.side l.current.nodes l.k l.out l.spare l.invariant, omega arith, omega arith)
 
 pub returns-in-Break : goal.returns-in-Break
 returns-in-Break c =
     let a = c.args in
     let l = c.loop-k in
-    reached_end a.table.words.now a.configuration.words.now a.budget a.limit a.out.now a.spare.now l.side l.nodes l.k l.out l.spare l.invariant
+    reached_end a.table.words.now a.configuration.words.now a.budget a.limit a.out.now a.spare.now l.current.side l.current.nodes l.k l.out l.spare l.invariant
     c.step_across-answer.new.out c.step_across-answer.new.spare c.step_across-answer.result c.step_across-answer.ensures c.in-Break.answer
     (sym c.judge.ensures ∙ c.in-Break.is)
 
@@ -35,6 +35,6 @@ loop-k-preserved c =
     let l = c.loop-k in
     let s = c.step_across-answer in
     let w = roomy (length a.configuration.words.now / 2) a.budget a.limit (length a.out.now) (length a.spare.now) c.requires in
-    rw c.other_side-side.ensures
-    (reached_more a.table.words.now a.configuration.words.now a.budget a.limit a.out.now a.spare.now l.side l.nodes l.k l.out l.spare l.invariant
-    s.new.out s.new.spare s.result s.ensures c.in-Continue.made (sym c.judge.ensures ∙ c.in-Continue.is) s.auto.out s.auto.spare w.0 w.1)
+    rw c.other_side.ensures
+    (reached_more a.table.words.now a.configuration.words.now a.budget a.limit a.out.now a.spare.now l.current.side l.current.nodes l.k l.out l.spare l.invariant
+    s.new.out s.new.spare s.result s.ensures c.in-Continue.nodes (sym c.judge.ensures ∙ c.in-Continue.is) s.auto.out s.auto.spare w.0 w.1)

@@ -1,4 +1,4 @@
-use Rattle.std.proofs.Common.{◌≡◌, ◌∙◌, ap, get_or, arith, add-one}
+use Rattle.std.proofs.Common.{◌≡◌, ◌∙◌, ap, length, get_or, take, arith, add-one}
 use mathlib.Core.List.{List}
 use Prim.Native.Nat.{pred}
 use lib.IntN.{ℤ}
@@ -18,4 +18,4 @@ loop-i-preserved c =
     let rules = order (table_of s.table.words.now) in
     let e : c.choice_at.result ≡ get_or rules (pred (position_at s.room a.work.now c.loop-i.i)) 0 =
     c.choice_at.ensures ∙ ap (λ (l : List ℤ). get_or rules (pred (position_of l)) 0) (lent_frame s.room a.work.now c.loop-i.i p.result.start p.result.end p.ensures.start p.ensures.end) in
-    rw (add-one c.loop-i.i, e, c.loop-i.invariant) (chosen_more rules (position_at s.room a.work.now) c.loop-i.i a.choices.now (omega arith))
+    rw (add-one c.loop-i.i, e, c.loop-i.invariant) (chosen_more rules (position_at s.room a.work.now) c.loop-i.i (take (length s.log.now) a.choices.now) (omega arith))

@@ -6,4 +6,4 @@ use Rattle.replay.specs.Turns.{position_at}
 use Rattle.replay.proofs.ending.write_choices.Given as goal
 
 abbrev pub invariant-loop-i : goal.invariant-loop-i
-invariant-loop-i l = l.choices ≡ chosen (order (table_of l.search.table.words.now)) (position_at l.search.room l.work) l.i ++ drop l.i l.fn.choices
+invariant-loop-i l = l.chosen ≡ chosen (order (table_of l.search.table.words.now)) (position_at l.search.room l.work) l.i ++ drop l.i l.initial.chosen
