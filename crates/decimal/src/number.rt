@@ -15,11 +15,7 @@ pub struct Reading {
 fn digit_of(byte: u8) -> Option<u64>
     ensures { result ≡ digit_of byte }
 {
-    if byte.is_ascii_digit() {
-        Some(u64::from(byte - b'0'))
-    } else {
-        None
-    }
+    char::from(byte).to_digit(10).map(u64::from)
 }
 
 // The digits at a place, behind a number that was read, and their end. What would leave 64 bits is no number.
