@@ -75,7 +75,8 @@ fn is_end(line: &[u8], at: usize) -> bool
     line.len() <= at || line[at] == b','
 }
 
-// The number that starts at a place of a line and ends at a comma or at the line's end.
+// The number that starts at a place of a line and ends at a comma or at the line's end. The library's `parse` would take a plus and leading zeros too, and would
+// have to be told where the number ends.
 pub fn number_at(line: &[u8], at: usize) -> Option<Reading>
     ensures { NumberContract line.now at result }
 {
