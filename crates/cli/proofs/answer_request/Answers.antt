@@ -22,10 +22,10 @@ pub overflow_mul-out : goal.overflow_mul-out
 overflow_mul-out c = omega (arith, (shown c.replay_counted.ensures refl refl refl c.in_ok-answer.was c.in-Some.is c.replay_counted.auto.out c.replay_counted.auto.choices).words_room)
 
 pub slice_bounds-out-end : goal.slice_bounds-out-end
-slice_bounds-out-end c = (shown c.replay_counted.ensures refl refl refl c.in_ok-answer.was c.in-Some.is c.replay_counted.auto.out c.replay_counted.auto.choices).words_room
+slice_bounds-out-end c = omega (arith, (shown c.replay_counted.ensures refl refl refl c.in_ok-answer.was c.in-Some.is c.replay_counted.auto.out c.replay_counted.auto.choices).words_room)
 
 pub slice_bounds-put_reproduced-end-in-Some : goal.slice_bounds-put_reproduced-end-in-Some
-slice_bounds-put_reproduced-end-in-Some c = taken _ _ (shown c.replay_counted.ensures refl refl refl c.in_ok-answer.was c.in-Some.is c.replay_counted.auto.out c.replay_counted.auto.choices).words_room
+slice_bounds-put_reproduced-end-in-Some c = taken _ _ (omega (arith, (shown c.replay_counted.ensures refl refl refl c.in_ok-answer.was c.in-Some.is c.replay_counted.auto.out c.replay_counted.auto.choices).words_room))
 
 pub returns-in-Some : goal.returns-in-Some
 returns-in-Some c = rw (shown c.replay_counted.ensures refl refl refl c.in_ok-answer.was c.in-Some.is c.replay_counted.auto.out c.replay_counted.auto.choices).text c.put_reproduced.ensures
