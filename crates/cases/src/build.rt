@@ -39,8 +39,8 @@ impl WordsSoFar<'_> {
     // A word that has started stands.
     fn flush(&mut self) {
         if let Some(size) = self.size.take() {
-            if self.count < self.words.len() {
-                self.words[self.count] = signed(size, self.minus);
+            if let Some(place) = self.words.get_mut(self.count) {
+                *place = signed(size, self.minus);
                 self.count += 1;
             }
         }

@@ -34,7 +34,7 @@ fn digits_from(line: &[u8], at: usize, first: u64) -> Option<(u64, usize)>
     Some((value, line.len()))
 }
 
-// A zero by itself, or digits that do not begin with one.
+// A zero by itself, or digits that do not begin with one. A pair, which is taken apart at once: in a `Reading` the number would lose its bound of 64 bits.
 #[tactic(auto, using(crate::proofs::NumberTurn::natural_at, crate::proofs::NumberTurn::natural_end))]
 fn natural_at(line: &[u8], at: usize) -> Option<(u64, usize)>
     ensures { result ≡ natural_from at (drop at line.now) }
