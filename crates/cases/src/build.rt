@@ -22,8 +22,8 @@ fn signed(size: usize, minus: bool) -> i64 {
     }
 }
 
-// The words so far, at the start of a slice, and how many; where the open group starts, how many words it is to have, and the place of the one that rises; the
-// digits and the sign of the next word.
+// The words so far, at the start of a slice, and how many: there is no heap for a vector. Where the open group starts, how many words it is to have, and the
+// place of the one that rises; the digits and the sign of the next word.
 #[derive(Drop)]
 struct WordsSoFar<'a> {
     words: &'a mut [i64],
@@ -39,8 +39,8 @@ impl WordsSoFar<'_> {
     // A word that has started stands.
     fn flush(&mut self) {
         if let Some(size) = self.size.take() {
-            if self.count < self.words.len() {
-                self.words[self.count] = signed(size, self.minus);
+            if let Some(place) = self.words.get_mut(self.count) {
+                *place = signed(size, self.minus);
                 self.count += 1;
             }
         }
@@ -59,6 +59,7 @@ impl WordsSoFar<'_> {
         let back = self.count.saturating_sub(self.start);
         let end = words.len().min(self.start.saturating_add(self.total));
         let mut rises = self.rises;
+        // Each word is made of one that stands before it in the same slice, so that the loop goes by places.
         for at in self.count..end {
             let from = at - back;
             let mut word = words[from];

@@ -75,7 +75,8 @@ fn run_call(rt: &impl Print, key: u8, name: &[u8], call: Call) -> io::Result<()>
     println!(rt; "")
 }
 
-// No key has a digit, a minus or an x, so that the numbers of a line may be read from its start.
+// No key has a digit, a minus or an x, so that the numbers of a line may be read from its start. The letter is matched here, where each step stands: an enum of
+// keys would be made of it by the same match.
 fn run_line(rt: &impl Print, line: &[u8], kept: &mut Kept) -> io::Result<()> {
     let (numbers, name) = parts(line);
     match key(line) {

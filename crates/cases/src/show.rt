@@ -88,6 +88,7 @@ pub struct Value(pub Root);
 impl fmt::Display for Value {
     fn fmt<W: fmt::Write>(&self, f: &mut fmt::Formatter<W>) -> fmt::Result {
         let datum = self.0.datum;
+        // The tags are words of the format, by `term`'s names for them: an enum would be made of them by the same match.
         match self.0.tag {
             term::ERROR => write!(f, "error"),
             term::TRUTH => write!(f, "{}", datum == 1),

@@ -6,7 +6,7 @@ use native.Mathlib.Omega.{arith}
 use lib.IntN.{ℤ}
 use Rattle.std.specs.Prelude.{Option, None, Some, Result, Ok, Err}
 use lib.ListN.{length, take, drop, length-append, length-drop}
-use lib.Seq.{take-append_seam, take_at, length-take-le}
+use lib.Seq.{take-append_seam, take_at}
 use Rattle.minuska.specs.Term.{Term, single, node_count}
 use Rattle.minuska.specs.Word.{encode}
 use Rattle.minuska.specs.declared.Refusal.{Refusal}
@@ -54,27 +54,26 @@ write_fits xs old new e s =
     let l : length new ≡ length xs + (length old - length xs) = ap length e ∙ (length-append xs (drop (length xs) old) ∙ ap (λ (k : ℕ). length xs + k) (length-drop (length xs) old)) in
     omega arith
 
--- the replay reproduced the log: what `choices` and `out` are read as, and their text
+-- the replay reproduced the log: what `choices` and the first words of `out` are read as, and their text
 pub record Shown (ws cs : List ℤ) (log : List ℕ) (n : ℕ) (out' : List ℤ) (choices' : List ℕ) (end : ℕ) : Type 0 where
   pub choices_room : length log ≤ length choices'
   pub words_room : end ≤ length out'
-  pub text_room : 64 + 21 * length (take (length log) choices') + 21 * length (take end out') ≤ 28672
   pub text : answer_text (replay_outcome ws cs log n 1024 256 4096) ≡ reproduced_text (take (length log) choices') (take end out')
 
-module _ (ws cs : List ℤ) (log : List ℕ) (n : ℕ) (out : List ℤ) (choices : List ℕ) (work out' : List ℤ) (choices' : List ℕ) (work' : List ℤ) (r : Result (Option ℕ) Refusal)
+module _ {ws cs : List ℤ} {log : List ℕ} {n : ℕ} {out : List ℤ} {choices : List ℕ} {work out' : List ℤ} {choices' : List ℕ} {work' : List ℤ} {r : Result (Option ℕ) Refusal}
     (k : CountedContract ws cs log n out choices work out' choices' work' r) (a : length out ≡ 1024) (b : length choices ≡ 256) (c : length work ≡ 4096) where
   outcome_is : k.replays.outcome ≡ replay_outcome ws cs log n 1024 256 4096
   outcome_is = k.replays.is ∙ rw (a, b, c)
 
-  pub not_reproduced_answer : r ≡ Ok None → answer_text (replay_outcome ws cs log n 1024 256 4096) ≡ not_reproduced_text
-  not_reproduced_answer e = rw (← outcome_is, not_reproduced_is k.replays.outcome (sym e ∙ k.counts))
+  pub not_reproduced_answer : {o : Option ℕ} → r ≡ Ok o → o ≡ None → answer_text (replay_outcome ws cs log n 1024 256 4096) ≡ not_reproduced_text
+  not_reproduced_answer was is = rw (← outcome_is, not_reproduced_is k.replays.outcome (sym (was ∙ ap Ok is) ∙ k.counts))
 
   pub refused_answer : (why : Refusal) → r ≡ Err why → answer_text (replay_outcome ws cs log n 1024 256 4096) ≡ refused_text why
   refused_answer why e = rw (← outcome_is, refused_is k.replays.outcome why (sym e ∙ k.counts))
 
-  module _ (nodes : ℕ) (e : r ≡ Ok (Some nodes)) (s : length out' ≡ length out) (t : length choices' ≡ length choices) where
+  module _ {o : Option ℕ} {nodes : ℕ} (was : r ≡ Ok o) (is : o ≡ Some nodes) (s : length out' ≡ length out) (t : length choices' ≡ length choices) where
     the : Reproduced k.replays.outcome nodes
-    the = found k.replays.outcome nodes (sym e ∙ k.counts)
+    the = found k.replays.outcome nodes (sym (was ∙ ap Ok is) ∙ k.counts)
 
     chosen_is : choices' ≡ write the.choices choices
     unfolding replay_choices
@@ -96,25 +95,18 @@ module _ (ws cs : List ℤ) (log : List ℕ) (n : ℕ) (out : List ℤ) (choices
     chosen : take (length log) choices' ≡ the.choices
     chosen = ap (take (length log)) chosen_is ∙ take_at the.choices (drop (length the.choices) choices) (length log) count
 
-    module _ (end : ℕ) (measured : end ≡ 2 * nodes) where
-      end_is_lem : end ≡ length found_words_lem
-      end_is_lem = measured ∙ (ap (λ (m : ℕ). 2 * m) the.counts ∙ sym (term_length the.last))
+    end_is_lem : 2 * nodes ≡ length found_words_lem
+    end_is_lem = ap (λ (m : ℕ). 2 * m) the.counts ∙ sym (term_length the.last)
 
-      words_room_lem : end ≤ length out'
-      words_room_lem = subst⁻¹ (λ (m : ℕ). m ≤ length out') end_is_lem (write_fits found_words_lem out out' words_are s)
+    words_room_lem : 2 * nodes ≤ length out'
+    words_room_lem = subst⁻¹ (λ (m : ℕ). m ≤ length out') end_is_lem (write_fits found_words_lem out out' words_are s)
 
-      text_room_lem : 64 + 21 * length (take (length log) choices') + 21 * length (take end out') ≤ 28672
-      text_room_lem =
-          let l : length (take (length log) choices') ≡ length log = length-take-le (length log) choices' choices_room_lem in
-          let m : length (take end out') ≡ end = length-take-le end out' words_room_lem in
-          omega (arith, choices_room_lem, words_room_lem)
+    configuration : take (2 * nodes) out' ≡ found_words_lem
+    configuration = ap (λ (m : ℕ). take m out') end_is_lem ∙ (ap (take (length found_words_lem)) words_are ∙ take-append_seam found_words_lem (drop (length found_words_lem) out))
 
-      configuration : take end out' ≡ found_words_lem
-      configuration = ap (λ (m : ℕ). take m out') end_is_lem ∙ (ap (take (length found_words_lem)) words_are ∙ take-append_seam found_words_lem (drop (length found_words_lem) out))
+    text_is : answer_text (replay_outcome ws cs log n 1024 256 4096) ≡ reproduced_text (take (length log) choices') (take (2 * nodes) out')
+    unfolding answer_text
+    text_is = ap answer_text (sym outcome_is ∙ the.is) ∙ (ap (λ (l : List ℕ). reproduced_text l found_words_lem) (sym chosen) ∙ ap (reproduced_text (take (length log) choices')) (sym configuration))
 
-      text_is : answer_text (replay_outcome ws cs log n 1024 256 4096) ≡ reproduced_text (take (length log) choices') (take end out')
-      unfolding answer_text
-      text_is = ap answer_text (sym outcome_is ∙ the.is) ∙ (ap (λ (l : List ℕ). reproduced_text l found_words_lem) (sym chosen) ∙ ap (reproduced_text (take (length log) choices')) (sym configuration))
-
-      pub shown : Shown ws cs log n out' choices' end
-      shown = record { choices_room = choices_room_lem; words_room = words_room_lem; text_room = text_room_lem; text = text_is }
+    pub shown : Shown ws cs log n out' choices' (2 * nodes)
+    shown = record { choices_room = choices_room_lem; words_room = words_room_lem; text = text_is }

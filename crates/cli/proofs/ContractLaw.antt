@@ -24,7 +24,6 @@ use Rattle.cli.specs.Computed.Lines.{request_in}
 use Rattle.decimal.specs.Computed.Put.{Wrote, Puts}
 use Rattle.cli.proofs.RequestLaw.{request_iff}
 use Rattle.decimal.proofs.PutLaw.{wrote_start}
-use Rattle.cli.proofs.AnswerTurn.{write_fits}
 
 module _ (input : List ℕ) where
   abbrev read : Option Request
@@ -68,7 +67,3 @@ module _ (input : List ℕ) where
       let is : Wrote output 0 (answer_text (answered read)) b.output.now b.at = rw (e, f) at w.wrote in
       let (leaves, counts) = wrote_start output (answer_text (answered read)) b.output.now b.at is in
       answer_contract output output' b.at (answer_text (answered read)) (rw (le-leb max_output (length output) room)) (l ∙ leaves) counts
-
--- what a caller may lend on: the answer's text lies within the output
-pub answer_fits : (input output output' : List ℕ) (r : ℕ) → AnswerContract input output output' r → length output' ≡ length output → r ≤ length output'
-answer_fits input output output' r k s = subst⁻¹ (λ (n : ℕ). n ≤ length output') k.counts (write_fits k.text output output' k.leaves s)

@@ -38,10 +38,10 @@ counted_none : {A : Type 0} (o : Option (List A)) → None ≡ option_map length
 counted_none None e = refl
 counted_none (Some xs) e = let z : ◌≡◌ {A = ℕ} 0 1 = cc in absurd (omega arith)
 
-module _ {A : Type 0} (i : Items A) (old out : List A) (r : Option ℕ) (k : ReadInto i old out r) where
-  pub took : (n : ℕ) → r ≡ Some n → length out ≡ length old → Took i (length old) out n
+module _ {A : Type 0} {i : Items A} {old out : List A} {r : Option ℕ} (k : ReadInto i old out r) where
+  pub took : {n : ℕ} → r ≡ Some n → length out ≡ length old → Took i (length old) out n
   unfolding accepted
-  took n e s =
+  took {n} e s =
       let (xs, q, m) = counted_read (accepted (length old) i) n (sym e ∙ k.answer) in
       let (t, l) = kept_some (i.whole && leb (length i.read) (length old)) i.read xs q in
       let few : length i.read ≤ length old = leb→le (length i.read) (length old) (and_right i.whole (leb (length i.read) (length old)) t) in
@@ -55,15 +55,15 @@ module _ {A : Type 0} (i : Items A) (old out : List A) (r : Option ℕ) (k : Rea
 
 -- ---- the four lines
 -- an input that is no request, with nothing put
-pub unread : (input : List ℕ) (text : Text) → request_in input ≡ None → Unread input text text
-unread input text e = record { no_request = e; puts = puts_none text }
+pub unread : {input : List ℕ} {text : Text} → request_in input ≡ None → Unread input text text
+unread {input} {text} e = record { no_request = e; puts = puts_none text }
 
-module _ (input : List ℕ) (r : Option Lines) (is : option_map texts r ≡ lines_of input) where
+module _ (input : List ℕ) {r : Option Lines} (is : option_map texts r ≡ lines_of input) where
   pub no_lines : r ≡ None → request_in input ≡ None
   unfolding request_in
   no_lines e = rw (← is, e)
 
-  module _ (lines : Lines) (e : r ≡ Some lines) where
+  module _ {lines : Lines} (e : r ≡ Some lines) where
     cut : request_in input ≡ request_of (texts lines)
     unfolding request_in
     cut = rw (← is, e)
@@ -72,24 +72,24 @@ module _ (input : List ℕ) (r : Option Lines) (is : option_map texts r ≡ line
     unfolding request_of
     no_table f = cut ∙ rw f
 
-    module _ (table : List ℤ) (f : accepted 2048 (items word_of lines.table.now) ≡ Some table) where
+    module _ {table : List ℤ} (f : accepted 2048 (items word_of lines.table.now) ≡ Some table) where
       pub no_configuration : accepted 1024 (items word_of lines.configuration.now) ≡ None → request_in input ≡ None
       unfolding request_of
       no_configuration g = cut ∙ rw (f, g)
 
-      module _ (configuration : List ℤ) (g : accepted 1024 (items word_of lines.configuration.now) ≡ Some configuration) where
+      module _ {configuration : List ℤ} (g : accepted 1024 (items word_of lines.configuration.now) ≡ Some configuration) where
         pub no_log : accepted 256 (log_items lines.log.now) ≡ None → request_in input ≡ None
         unfolding request_of
         no_log h = cut ∙ rw (f, g, h)
 
-        module _ (log : List ℕ) (h : accepted 256 (log_items lines.log.now) ≡ Some log) where
+        module _ {log : List ℕ} (h : accepted 256 (log_items lines.log.now) ≡ Some log) where
           pub no_limit : limit_in lines.limit.now ≡ None → request_in input ≡ None
           unfolding request_of
           no_limit i = cut ∙ rw (f, g, h, i)
 
-          pub all_read : (limit : ℕ) → limit_in lines.limit.now ≡ Some limit → answered (request_in input) ≡ replay_outcome table configuration log limit 1024 256 4096
+          pub all_read : {limit : ℕ} → limit_in lines.limit.now ≡ Some limit → answered (request_in input) ≡ replay_outcome table configuration log limit 1024 256 4096
           unfolding request_of answered
-          all_read limit i = ap answered cut ∙ rw (f, g, h, i)
+          all_read i = ap answered cut ∙ rw (f, g, h, i)
 
 -- ---- an input that is refused, or no request
 module _ (input : List ℕ) (a b c : Text) (o : Option (Result ⊤ Refusal)) (k : MatchOption o (Unread input a b) (Answers a (answered (request_in input)) b)) where

@@ -22,10 +22,10 @@ mod print;
 pub const MAX_OUTPUT: usize = 28672;
 
 // Puts the answer to a request, unless it is refused.
-fn answer_request<'a>(
-    table: &'a [i64],
+fn answer_request(
+    table: &[i64],
     configuration: &[i64],
-    log: &'a [u16],
+    log: &[u16],
     limit: usize,
     text: &mut Text,
 ) -> Result<(), Refusal>

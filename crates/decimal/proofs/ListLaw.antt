@@ -4,15 +4,12 @@ use mathlib.Core.List.{List, [], ◌∷◌, ◌++◌}
 use Prim.Native.Nat.{ℕ, suc, ◌+◌, ◌-◌, ◌<◌}
 use native.Mathlib.Omega.{arith}
 use native.Mathlib.Numerals.{add-one}
-use lib.ListN.{length, take, drop, length-append, length-drop}
-use lib.Seq.{drop-drop, drop-append_seam, take-append_seam}
+use lib.ListN.{length, drop, length-append, length-drop}
+use lib.Seq.{drop-drop, drop-append_seam}
 
 module _ {A : Type 0} (xs : List A) (at : ℕ) (t rest : List A) (e : drop at xs ≡ t ++ rest) where
   pub behind : drop (at + length t) xs ≡ rest
   behind = sym (drop-drop (length t) at xs) ∙ (ap (drop (length t)) e ∙ drop-append_seam t rest)
-
-  pub here : take (length t) (drop at xs) ≡ t
-  here = ap (take (length t)) e ∙ take-append_seam t rest
 
   left_of_lem : length xs - at ≡ length t + length rest
   left_of_lem = sym (length-drop at xs) ∙ (ap length e ∙ length-append t rest)

@@ -5,7 +5,7 @@ ghost use Rattle.decimal.specs.Computed.Line.{word_of, action_of, limit_of};
 ghost use Rattle.decimal.specs.Computed.Put.{HasRoom, Puts};
 
 use crate::print::Text;
-use itoa::Buffer;
+use itoa::{Buffer, Integer};
 
 // A number of a field.
 pub trait Item: Copy {
@@ -24,6 +24,16 @@ pub trait Item: Copy {
         ensures upper_bound { text.new.at ≤ text.old.at + 20 };
 }
 
+// Puts a number's text, as the library writes it.
+#[inline]
+fn put_number<I: Integer>(number: I, text: &mut Text)
+    requires { HasRoom text.old I.MAX_STR_LEN }
+    ensures puts { Puts text.old (I.text number) text.new }
+    ensures upper_bound { text.new.at ≤ text.old.at + I.MAX_STR_LEN }
+{
+    text.put_text(Buffer::new().format(number).as_bytes());
+}
+
 // A word.
 impl Item for i64 {
     ghost field = { word_of };
@@ -37,9 +47,7 @@ impl Item for i64 {
     #[inline]
     #[tactic(auto, using(crate::proofs::PrintTurn::whole_same))]
     fn put(self, text: &mut Text) {
-        let mut buffer = Buffer::new();
-        let word = buffer.format(self);
-        text.put_text(word.as_bytes());
+        put_number(self, text);
     }
 }
 
@@ -71,8 +79,6 @@ impl Item for u64 {
     #[inline]
     #[tactic(auto, using(crate::proofs::PrintTurn::decimal_same))]
     fn put(self, text: &mut Text) {
-        let mut buffer = Buffer::new();
-        let number = buffer.format(self);
-        text.put_text(number.as_bytes());
+        put_number(self, text);
     }
 }

@@ -12,8 +12,8 @@ pub fn read_items<T: Item>(line: &[u8], out: &mut [T]) -> Option<usize>
     ensures { ReadInto (items T.field line.now) out.old out.new result }
 {
     let mut reader = NumberReader::new(line, 0);
-    for count in 0..out.len() {
-        out[count] = T::from_number(reader.next()?)?;
+    for (count, place) in out.iter_mut().enumerate() {
+        *place = T::from_number(reader.next()?)?;
         if line.len() < reader.at {
             return Some(count + 1);
         }
@@ -36,10 +36,6 @@ pub fn read_log(line: &[u8], out: &mut [u16]) -> Option<usize>
 pub fn read_limit(line: &[u8]) -> Option<u64>
     ensures { result ≡ limit_in line.now }
 {
-    let reading = number_at(line, 0)?;
-    if reading.end == line.len() {
-        u64::from_number(reading.number)
-    } else {
-        None
-    }
+    let alone = number_at(line, 0).filter(|reading| reading.end == line.len())?;
+    u64::from_number(alone.number)
 }

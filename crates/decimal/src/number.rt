@@ -15,11 +15,7 @@ pub struct Reading {
 fn digit_of(byte: u8) -> Option<u64>
     ensures { result ≡ digit_of byte }
 {
-    if byte.is_ascii_digit() {
-        Some(u64::from(byte - b'0'))
-    } else {
-        None
-    }
+    char::from(byte).to_digit(10).map(u64::from)
 }
 
 // The digits at a place, behind a number that was read, and their end. What would leave 64 bits is no number.
@@ -37,7 +33,7 @@ fn digits_from(line: &[u8], at: usize, first: u64) -> Option<(u64, usize)>
     Some((value, at.max(line.len())))
 }
 
-// A zero by itself, or digits that do not begin with one.
+// A zero by itself, or digits that do not begin with one. A pair, which is taken apart at once: in a `Reading` the number would lose its bound of 64 bits.
 #[tactic(auto, using(crate::proofs::NumberTurn::natural_at, crate::proofs::NumberTurn::natural_end))]
 fn natural_at(line: &[u8], at: usize) -> Option<(u64, usize)>
     ensures { result ≡ natural_from at (drop at line.now) }
@@ -78,7 +74,8 @@ fn is_end(line: &[u8], at: usize) -> bool
     line.len() <= at || line[at] == b','
 }
 
-// The number that starts at a place of a line and ends at a comma or at the line's end.
+// The number that starts at a place of a line and ends at a comma or at the line's end. The library's `parse` would take a plus and leading zeros too, and would
+// have to be told where the number ends.
 pub fn number_at(line: &[u8], at: usize) -> Option<Reading>
     ensures { NumberContract line.now at result }
 {

@@ -21,6 +21,7 @@ impl<'a> Text<'a> {
         Text { output, at: 0 }
     }
 
+    // The room is known: the library's `Write` of a slice would answer a `Result`, and leave only the part of the slice behind the text.
     #[inline]
     #[tactic(auto, using(crate::proofs::PrintTurn::wrote_part))]
     pub fn put_text(&mut self, bytes: &[u8])

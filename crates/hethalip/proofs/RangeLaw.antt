@@ -8,7 +8,7 @@ use lib.Dec.{T, lit≤}
 use lib.IntN.{ℤ}
 use lib.ListN.{length, get_elem?}
 use Rattle.minuska.specs.Term.{Term, node_count}
-use Rattle.minuska.specs.Rule.{Rule, Table, max_nodes, max_steps, max_actions, ok_table}
+use Rattle.minuska.specs.Rule.{Rule, Table, max_nodes, max_steps, max_actions, ok_table, IsTable, IsConfiguration}
 use Rattle.minuska.specs.Rewriting.{RewritesBy}
 use Rattle.std.specs.Prelude.{Option as StdOption, Result, Ok, Err, IfOk}
 use Rattle.minuska.specs.declared.Refusal.{Refusal}
@@ -18,7 +18,7 @@ use Rattle.minuska.specs.declared.MatchAnswer.{MatchAnswer}
 use Rattle.minuska.specs.declared.RunAnswer.{RunAnswer}
 use Rattle.minuska.specs.declared.ReplayAnswer.{ReplayAnswer}
 use Rattle.minuska.specs.Answer.{number, Row, Outcome, refused, gives, MatchResult, matched, misfit, ReasonsResult, listed, not_stuck, StepResult, stepped, stuck, too_large, Ending, ends_stuck, ends_spent, ends_over, RunResult, ReplayResult, reproduced, exceeded, not_reproduced}
-use Rattle.minuska.specs.Claim.{step_rows, long_row, limit_row, short_row, size_rows, ReasonsShort, RunShort, ReplayShort}
+use Rattle.minuska.specs.Claim.{FirstGiven, step_rows, long_row, limit_row, short_row, size_rows, ReasonsShort, RunShort, ReplayShort}
 use Rattle.minuska.specs.Slice.{out_limit, match_answer, reasons_answer, step_answer, ended_as, run_answer, replay_answer}
 use Rattle.minuska.specs.Computed.Read.{read_table, read_configuration}
 use Rattle.minuska.specs.Computed.Outcome.{checked, table_check, configuration_check}
@@ -125,32 +125,31 @@ answer_in_range (gives (stepped n a h)) e f = f n a h refl
 answer_in_range (gives stuck) e f = tt
 answer_in_range (gives too_large) e f = lit≤ tt
 
+-- a step is by a rule of the table, and what it makes is no larger than a configuration may be
+stepped_in_range : (ws cs : List ℤ) (o : Outcome StepResult) (r : Result (StdOption Stepped) Refusal) → r ≡ step_answer o → FirstGiven (step_rows ws cs) o
+    → ((t : Table) (g : Term) (n a : ℕ) (h : Term) → IsTable ws t → IsConfiguration cs g → o ≡ gives (stepped n a h) → RewritesBy t a n g h × (node_count h ≤ max_nodes)) → StepInRange r
+stepped_in_range ws cs o r answer first steps =
+    subst⁻¹ StepInRange answer (answer_in_range o (early_number ws cs [] o tt first) within)
+  where
+    within : Steps o
+    within n a h e =
+        let (t, g, p, q, _) = words_read ws cs [] o (stepped n a h) e first in
+        let (w, small) = steps t g n a h p q e in
+        let i = rewrites_in_range t a n g h p.accepted w in (i.0, i.1, small)
+
 module _ {ws cs out out' : List ℤ} {r : Result (StdOption Stepped) Refusal} where
   pub step_in_range : StepContract ws cs out out' r → StepInRange r
   step_in_range c =
-      subst⁻¹ StepInRange c.answer (answer_in_range c.outcome (early_number ws cs [] c.outcome tt c.refuses) steps)
-    where
-      steps : Steps c.outcome
-      steps n a h e =
-          let w = words_read ws cs [] c.outcome (stepped n a h) e c.refuses in
-          let s = ((c.claim.meets w.0 w.1 (stepped n a h) w.2 w.3 e).steps n a h).0 refl in
-          let i = rewrites_in_range w.0 a n w.1 h w.2.accepted s.0.rewrites in
-          let j = out_limit_lem (length out) in
-          let k = s.1 in (i.0, i.1, omega arith)
+      stepped_in_range ws cs c.outcome r c.answer c.refuses (λ t g n a h p q e.
+      let s = ((c.claim.meets t g (stepped n a h) p q e).steps n a h).0 refl in
+      (s.0.rewrites, omega (arith, s.1, out_limit_lem (length out))))
 
 module _ {ws cs : List ℤ} {rule : ℕ} {out out' : List ℤ} {r : Result (StdOption Stepped) Refusal} where
   pub rule_in_range : StepByRuleContract ws cs rule out out' r → StepInRange r
   rule_in_range c =
-      subst⁻¹ StepInRange c.answer (answer_in_range c.outcome (early_number ws cs [] c.outcome tt c.refuses) steps)
-    where
-      steps : Steps c.outcome
-      steps n a h e =
-          let w = words_read ws cs [] c.outcome (stepped n a h) e c.refuses in
-          let s = ((c.claim.meets w.0 w.1 (stepped n a h) w.2 w.3 e).steps n a h).0 refl in
-          let i = rewrites_in_range w.0 a rule w.1 h w.2.accepted s.1 in
-          let j = out_limit_lem (length out) in
-          let k = s.2 in
-          let m = s.0 in (omega (arith, i.0), i.1, omega arith)
+      stepped_in_range ws cs c.outcome r c.answer c.refuses (λ t g n a h p q e.
+      let s = ((c.claim.meets t g (stepped n a h) p q e).steps n a h).0 refl in
+      (subst⁻¹ (λ (m : ℕ). RewritesBy t a m g h) s.0 s.1, omega (arith, s.2, out_limit_lem (length out))))
 
 -- ---- the run
 ended_in_range : (k : ℕ) (x : Ending) → k ≤ max_steps → RunInRange (Ok (ended_as x k))

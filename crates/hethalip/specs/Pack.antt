@@ -10,6 +10,23 @@ use Rattle.minuska.specs.declared.ReplayAnswer.{ReplayAnswer}
 use Rattle.minuska.specs.declared.ReplayAnswer.TheVariants as P
 use Rattle.minuska.specs.Answer.{number}
 use Rattle.minuska.specs.Slice.{run_says}
+use Rattle.hethalip.specs.declared.pack.Kind.{Kind}
+use Rattle.hethalip.specs.declared.pack.Kind.TheVariants as K
+
+-- the low byte of an answer that is no refusal
+abbrev pub kind_number : Kind → ℕ
+kind_number K.Good = 0
+kind_number K.Over = 6
+kind_number K.Stuck = 16
+kind_number K.Stepped = 17
+kind_number K.RanStuck = 18
+kind_number K.RanSpent = 19
+kind_number K.Reproduced = 20
+kind_number K.NotReproduced = 21
+kind_number K.Matches = 22
+kind_number K.Differs = 23
+kind_number K.Listed = 24
+kind_number K.NotStuck = 25
 
 -- the two checks: 0 good
 abbrev pub good_number : Unit {0} → ℕ

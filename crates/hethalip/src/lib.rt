@@ -26,7 +26,7 @@ pub extern "C" fn hethalip_check_configuration(configuration: &[i64]) -> u64
 
 // A rule's left matched against the configuration.
 #[unsafe(no_mangle)]
-pub extern "C" fn hethalip_match<'a>(table: &'a [i64], configuration: &'a [i64], rule: usize) -> u64
+pub extern "C" fn hethalip_match(table: &[i64], configuration: &[i64], rule: usize) -> u64
     ensures { Packs pack_match (MatchRuleContract table.now configuration.now rule) result }
 {
     packed(step::match_rule(table, configuration, rule))
@@ -34,11 +34,7 @@ pub extern "C" fn hethalip_match<'a>(table: &'a [i64], configuration: &'a [i64],
 
 // Why each rule does not apply to a stuck configuration: two words for each in the list.
 #[unsafe(no_mangle)]
-pub extern "C" fn hethalip_reasons<'a>(
-    table: &'a [i64],
-    configuration: &'a [i64],
-    list: &mut [i64],
-) -> u64
+pub extern "C" fn hethalip_reasons(table: &[i64], configuration: &[i64], list: &mut [i64]) -> u64
     ensures { Packs pack_reasons (ReasonsContract table.now configuration.now list.old list.new) result }
 {
     packed(step::reasons(table, configuration, list))
@@ -46,11 +42,7 @@ pub extern "C" fn hethalip_reasons<'a>(
 
 // The step.
 #[unsafe(no_mangle)]
-pub extern "C" fn hethalip_step<'a>(
-    table: &'a [i64],
-    configuration: &'a [i64],
-    out: &mut [i64],
-) -> u64
+pub extern "C" fn hethalip_step(table: &[i64], configuration: &[i64], out: &mut [i64]) -> u64
     ensures { Packs pack_step (StepContract table.now configuration.now out.old out.new) result }
 {
     packed(step::step(table, configuration, out))
@@ -58,9 +50,9 @@ pub extern "C" fn hethalip_step<'a>(
 
 // The step by one given rule.
 #[unsafe(no_mangle)]
-pub extern "C" fn hethalip_step_by_rule<'a>(
-    table: &'a [i64],
-    configuration: &'a [i64],
+pub extern "C" fn hethalip_step_by_rule(
+    table: &[i64],
+    configuration: &[i64],
     rule: usize,
     out: &mut [i64],
 ) -> u64
@@ -71,9 +63,9 @@ pub extern "C" fn hethalip_step_by_rule<'a>(
 
 // The run: the limit is in nodes.
 #[unsafe(no_mangle)]
-pub extern "C" fn hethalip_run<'a>(
-    table: &'a [i64],
-    configuration: &'a [i64],
+pub extern "C" fn hethalip_run(
+    table: &[i64],
+    configuration: &[i64],
     budget: u64,
     limit: u64,
     out: &mut [i64],
@@ -87,9 +79,9 @@ pub extern "C" fn hethalip_run<'a>(
 
 // The replay: the limit is in nodes.
 #[unsafe(no_mangle)]
-pub extern "C" fn hethalip_replay<'a>(
-    table: &'a [i64],
-    configuration: &'a [i64],
+pub extern "C" fn hethalip_replay(
+    table: &[i64],
+    configuration: &[i64],
     log: &[u16],
     limit: u64,
     out: &mut [i64],

@@ -1,7 +1,7 @@
 // An answer as one number: its kind in the low byte, its values above.
 ghost use Rattle.std.specs.Prelude.{◌≡◌, ℕ, ◌+◌, ◌*◌, ◌≤◌, ◌<◌, ◌^◌, IfOk};
 ghost use Rattle.minuska.specs.Rule.{max_nodes, max_steps};
-ghost use Rattle.hethalip.specs.Pack.{pack, good_number, match_number, reasons_number, step_number, run_number, replay_number};
+ghost use Rattle.hethalip.specs.Pack.{pack, kind_number, good_number, match_number, reasons_number, step_number, run_number, replay_number};
 ghost use Rattle.hethalip.specs.Range.{AnyGood, CountWithin, RuleWithin, StepWithin, StepsWithin, AnyReplay};
 
 use minuska::{MatchAnswer, Refusal, ReplayAnswer, RunAnswer, Stepped};
@@ -57,11 +57,11 @@ impl Answer for () {
 }
 
 // A count above its kind.
-fn counted(kind: u64, k: usize) -> u64
-    requires { (kind < 256) × (k ≤ max_steps) }
-    ensures { result ≡ kind + k * 2 ^ 8 }
+fn counted(kind: Kind, k: usize) -> u64
+    requires { k ≤ max_steps }
+    ensures { result ≡ kind_number kind + k * 2 ^ 8 }
 {
-    kind + k as u64 * 256
+    kind as u64 + k as u64 * 256
 }
 
 impl Answer for MatchAnswer {
@@ -71,8 +71,8 @@ impl Answer for MatchAnswer {
 
     fn number(self) -> u64 {
         match self {
-            MatchAnswer::Matches(count) => counted(Kind::Matches as u64, count),
-            MatchAnswer::Differs(count) => counted(Kind::Differs as u64, count),
+            MatchAnswer::Matches(count) => counted(Kind::Matches, count),
+            MatchAnswer::Differs(count) => counted(Kind::Differs, count),
         }
     }
 }
@@ -86,7 +86,7 @@ impl Answer for Option<usize> {
     fn number(self) -> u64 {
         match self {
             None => Kind::Listed as u64,
-            Some(rule) => counted(Kind::NotStuck as u64, rule),
+            Some(rule) => counted(Kind::NotStuck, rule),
         }
     }
 }
@@ -96,7 +96,7 @@ fn stepped(rule: usize, action: u16, nodes: usize) -> u64
     requires { (rule < 256) × (nodes ≤ max_nodes) }
     ensures { result ≡ 17 + rule * 2 ^ 8 + action * 2 ^ 16 + nodes * 2 ^ 32 }
 {
-    Kind::Stepped as u64 + rule as u64 * 256 + action as u64 * 65536 + nodes as u64 * 4294967296
+    Kind::Stepped as u64 + rule as u64 * 256 + u64::from(action) * 65536 + nodes as u64 * 4294967296
 }
 
 impl Answer for Option<Stepped> {
@@ -120,9 +120,9 @@ impl Answer for RunAnswer {
     #[tactic(auto, unfolding(minuska::specs::Slice::run_says, minuska::specs::Answer::number))]
     fn number(self) -> u64 {
         match self {
-            RunAnswer::Stuck(k) => counted(Kind::RanStuck as u64, k),
-            RunAnswer::Spent(k) => counted(Kind::RanSpent as u64, k),
-            RunAnswer::Over(k) => counted(Kind::Over as u64, k),
+            RunAnswer::Stuck(k) => counted(Kind::RanStuck, k),
+            RunAnswer::Spent(k) => counted(Kind::RanSpent, k),
+            RunAnswer::Over(k) => counted(Kind::Over, k),
         }
     }
 }
