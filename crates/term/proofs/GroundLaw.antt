@@ -104,18 +104,24 @@ in_range (suc (suc (suc (suc (suc (suc (suc (suc k)))))))) d f i r =
     let a : k ≤ 7 = omega arith in
     node_good (symbol (of_z w64 d)) k (pos (suc (suc (suc (suc (suc (suc (suc (suc k))))))))) d (and_both (ltb (of_z w64 d) symbols) (leb k 7) (lt→ltb (of_z w64 d) symbols h) (le→leb k 7 a)) tt (ap pos (eight k)) (number d f symbols h (lit< tt))
 
--- THE TEST BY THE TAG: two words are a ground term's node, no dictionary, exactly if the datum is below the tag's bound, or the tag is a whole's.
-module _ (t d : ℤ) (tag : ℕ) (f : SFits w64 d) (p : t ≡ pos tag) (i : tag < 16) where
-  pub below : of_z w64 d < get_or NODES.bound tag 0 → TaggedNode t d true
-  below h = subst⁻¹ (λ (x : ℤ). TaggedNode x d true) p (in_range tag d f i h)
+-- THE TEST BY THE TAG: two words are a ground term's node, no dictionary, exactly if the datum is below the tag's bound, or the tag is a whole's. Both are read as numbers without a sign.
+module _ (t d : ℤ) (tag datum : ℕ) (g : SFits w64 t) (f : SFits w64 d) (p : tag ≡ of_z w64 t) (q : datum ≡ of_z w64 d) (i : tag < 16) where
+  tag_is : t ≡ pos tag
+  tag_is = sym (ap pos p ∙ number t g 16 (omega arith) (lit< tt))
 
-  pub above : get_or NODES.bound tag 0 ≤ of_z w64 d → (t ≡ pos 2 → ⊥) → TaggedNode t d false
-  above g w = no_tagged t d (λ m n.
+  pub tag_count : get_or NODES.children tag 0 ≡ tag_children t
+  tag_count = children_entry tag i ∙ ap tag_children (sym tag_is)
+
+  pub below : datum < get_or NODES.bound tag 0 → TaggedNode t d true
+  below h = subst⁻¹ (λ (x : ℤ). TaggedNode x d true) tag_is (in_range tag d f i (omega arith))
+
+  pub above : get_or NODES.bound tag 0 ≤ datum → (t ≡ pos 2 → ⊥) → TaggedNode t d false
+  above k w = no_tagged t d (λ m n.
       let h = label_below n.label m n.okay n.passes in
-      let a : h.0 ≡ tag = let x = h.1 in let y = n.tag in cc in
+      let a : h.0 ≡ tag = let x = h.1 in let y = n.tag in let z = tag_is in cc in
       ⊎_elim
       (λ b. let x = subst (λ (x : ℕ). of_z w64 d < bound x) a (subst (λ (x : ℤ). of_z w64 x < bound h.0) n.datum b) in let f : ⊥ = omega arith in f)
-      (λ b. w (p ∙ ap pos (sym a ∙ b)))
+      (λ b. w (tag_is ∙ ap pos (sym a ∙ b)))
       h.2)
 
 pub of_whole : (t d : ℤ) → t ≡ pos 2 → TaggedNode t d true

@@ -61,7 +61,8 @@ pub fn tagged_children(t: i64, d: i64) -> Option<usize>
     ensures node { TaggedNode t d (is_some result) }
     ensures count { IfSome result (λ m. m ≡ tag_children t) }
 {
-    let tag = usize::try_from(t).ok()?;
+    // no `try_from`, which costs two instructions a node here: a tag below 0 is above all others as a number without a sign
+    let tag = t.cast_unsigned() as usize;
     if TAGS <= tag {
         return None;
     }
@@ -72,13 +73,6 @@ pub fn tagged_children(t: i64, d: i64) -> Option<usize>
         return Some(0);
     }
     None
-}
-
-// Whether two words are such a node.
-pub fn in_range(t: i64, d: i64) -> bool
-    ensures { TaggedNode t d result }
-{
-    tagged_children(t, d).is_some()
 }
 
 // The child count of two words that are a node of a ground term.
