@@ -1,11 +1,11 @@
 -- A copy: what it leaves, and what stands there; zeros over the first words.
-use mathlib.Core.Path.{◌≡◌, ap, ap₂, ◌∙◌}
+use mathlib.Core.Path.{◌≡◌, ap, ap₂, ◌∙◌, subst}
 use mathlib.Core.List.{List, ◌++◌, append_assoc}
-use Prim.Native.Nat.{ℕ, ◌+◌, ◌≤◌, ◌<◌}
+use Prim.Native.Nat.{ℕ, suc, ◌+◌, ◌≤◌, ◌<◌}
 use native.Mathlib.Omega.{arith}
 use lib.IntN.{ℤ, pos}
-use lib.ListN.{length, get_or, take, drop, replicate, length-replicate}
-use lib.Seq.{paste, length-take-le, take-length, take_at, drop_at, drop-paste}
+use lib.ListN.{length, get_or, set, take, drop, replicate, length-replicate}
+use lib.Seq.{paste, paste-suc, length-take-le, take-length, take_at, drop_at, drop-paste}
 use Rattle.minuska.specs.Slice.{write, write_zeros}
 use Rattle.words.proofs.PartLaw.{word_below, word_behind}
 
@@ -38,3 +38,7 @@ zeros_front n old zs h e = rw (e, length-take-le n old h, length-replicate n (po
 
 pub same_zeros : (n : ℕ) (old old' : List ℤ) → drop n old' ≡ drop n old → write_zeros n old' ≡ write_zeros n old
 same_zeros n old old' e = rw (length-replicate n (pos 0), e)
+
+-- one word more is copied to the start
+pub copied_on : (to from : List ℤ) (i : ℕ) → i < length from → length from ≤ length to → set (paste to 0 from i) i (get_or from i (pos 0)) ≡ paste to 0 from (suc i)
+copied_on to from i h g = subst (λ (k : ℕ). set (paste to 0 from i) k (get_or from i (pos 0)) ≡ paste to 0 from (suc i)) (let z : 0 + i ≡ i = omega arith in z) (paste-suc to 0 from i (pos 0) (omega arith) (omega arith))
