@@ -16,7 +16,7 @@ use crate::search::Search;
 use memory::frame;
 use minuska::limits::MAX_ACTIONS;
 use minuska::{Index, Refusal, ReplayAnswer};
-use table::checked::Table;
+use step::Game;
 use term::configuration::Configuration;
 
 // What out holds, kept in the frame behind those of the log; none of these holds a configuration, but the first the initial one.
@@ -64,27 +64,26 @@ fn replay_short(log: &[u16], limit: usize, out: usize, choices: usize, work: usi
 
 // The replay of checked words: refusals 3 to 5, then the search.
 fn replay_checked(
-    table: Table,
-    configuration: Configuration,
+    game: Game,
     log: &[u16],
     limit: usize,
     out: &mut [i64],
     choices: &mut [u16],
     work: &mut [i64],
 ) -> Result<Option<usize>, Refusal>
-    ensures { CountedContract table.entry.words.now configuration.entry.words.now log.now limit out.old choices.old work.old out.new choices.new work.new result }
+    ensures { CountedContract game.entry.table.words.now game.entry.configuration.words.now log.now limit out.old choices.old work.old out.new choices.new work.new result }
 {
     let short = replay_short(log, limit, out.len(), choices.len(), work.len());
-    let nodes = configuration.words.len() / 2;
+    let nodes = game.configuration.words.len() / 2;
     sizes::check_sizes(log.len(), MAX_ACTIONS, nodes, limit, short)?;
     let search = Search {
-        table,
+        table: game.table,
         log,
-        rules: table.rules(),
+        rules: game.table.rules(),
         room: 2 * limit,
         remember: true,
     };
-    replay_accepted(&search, configuration, out, choices, work)
+    replay_accepted(&search, game.configuration, out, choices, work)
 }
 
 // The replay, with the node count of its last configuration where there is a path.
@@ -100,8 +99,8 @@ pub fn replay_counted(
     ensures { CountedContract table.now configuration.now log.now limit out.old choices.old work.old out.new choices.new work.new result }
 {
     let mut index = Index::EMPTY;
-    let (table, configuration) = step::checked(&mut index, table, configuration)?;
-    replay_checked(table, configuration, log, limit, out, choices, work)
+    let game = step::checked(&mut index, table, configuration)?;
+    replay_checked(game, log, limit, out, choices, work)
 }
 
 // Refused; reproduced; over the limit, which is refusal 6; or not reproduced. The limit is in nodes.

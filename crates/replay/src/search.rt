@@ -7,6 +7,7 @@ ghost use Rattle.replay.specs.Reading.{table_of};
 
 use memory::frame;
 use minuska::{Refusal, Stepped};
+use step::Game;
 use table::checked::Table;
 use term::configuration::Configuration;
 
@@ -47,7 +48,7 @@ struct Standing<'a> {
     ghost deep: { depth < length search.now.log.now },
 }
 
-impl Search<'_> {
+impl<'a> Search<'a> {
     ghost use Rattle.replay.specs.Turns.{Framed, MemoryOf, Skipped, Sought, TryContract, SearchContract};
     ghost use Rattle.replay.specs.Standing.{Fits, Sound};
 
@@ -70,7 +71,7 @@ impl Search<'_> {
     fn try_at(
         &self,
         position: usize,
-        frame: &[i64],
+        frame: &'a [i64],
         out: &mut [i64],
     ) -> Result<Option<Stepped>, Refusal>
         requires fits { (self.now.room ≤ length out.old) × (position < self.now.rules) }
@@ -81,7 +82,11 @@ impl Search<'_> {
         let configuration = Configuration {
             words: frame::configuration(frame),
         };
-        step::by_rule(self.table, configuration, rule, &mut out[..self.room])
+        Game {
+            table: self.table,
+            configuration,
+        }
+        .by_rule(rule, &mut out[..self.room])
     }
 
     // The search, from a configuration that is entered at depth 0: the words of the last configuration of a path, which stands at the start of out; refusal 6 where

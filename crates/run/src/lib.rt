@@ -12,6 +12,7 @@ ghost use Rattle.run.specs.Ending.{RunEnds, Finishes};
 use minuska::limits::MAX_STEPS;
 use minuska::{Index, Refusal, RunAnswer, Stepped};
 use std::ops::ControlFlow;
+use step::Game;
 use table::checked::Table;
 use term::configuration::Configuration;
 
@@ -49,9 +50,9 @@ fn other_side(side: Side) -> Side
 }
 
 // The step of the configuration at the start of one slice, written into the first words of another.
-fn step_into(
-    table: Table,
-    from: &[i64],
+fn step_into<'a>(
+    table: Table<'a>,
+    from: &'a [i64],
     nodes: usize,
     to: &mut [i64],
     words: usize,
@@ -59,28 +60,37 @@ fn step_into(
     requires { StartsWith from.now nodes × (words ≤ length to.old) }
     ensures { StepsInto (step_outcome table.entry.words.now (take (2 * nodes) from.now) words) words to.old to.new result }
 {
-    let current = Configuration {
+    let configuration = Configuration {
         words: &from[..2 * nodes],
     };
-    step::earliest(table, current, &mut to[..words])
+    Game {
+        table,
+        configuration,
+    }
+    .earliest(&mut to[..words])
 }
 
 // The step of the current configuration, written into the slice whose turn it is.
 fn step_across(
-    table: Table,
-    configuration: Configuration,
+    game: Game,
     current: Current,
     words: usize,
     out: &mut [i64],
     spare: &mut [i64],
 ) -> Result<Option<Stepped>, Refusal>
-    requires { StartsWith (by_side current.side configuration.words.now out.old spare.old) current.nodes × (words ≤ length out.old) × (words ≤ length spare.old) }
-    ensures { StepsAcross table.entry.words.now configuration.entry.words.now current.side current.nodes words out.old spare.old out.new spare.new result }
+    requires { StartsWith (by_side current.side game.configuration.words.now out.old spare.old) current.nodes × (words ≤ length out.old) × (words ≤ length spare.old) }
+    ensures { StepsAcross game.entry.table.words.now game.entry.configuration.words.now current.side current.nodes words out.old spare.old out.new spare.new result }
 {
     match current.side {
-        Side::Initial => step_into(table, configuration.words, current.nodes, out, words),
-        Side::Out => step_into(table, out, current.nodes, spare, words),
-        Side::Spare => step_into(table, spare, current.nodes, out, words),
+        Side::Initial => step_into(
+            game.table,
+            game.configuration.words,
+            current.nodes,
+            out,
+            words,
+        ),
+        Side::Out => step_into(game.table, out, current.nodes, spare, words),
+        Side::Spare => step_into(game.table, spare, current.nodes, out, words),
     }
 }
 
@@ -103,24 +113,17 @@ fn judge(
 
 // The steps, up to the end. `out`, `spare`, `budget` and `limit` are no struct: the entry point is lent them one by one, each step reads one slice and writes the other,
 // and a budget counts steps where a limit counts nodes.
-fn advance(
-    table: Table,
-    configuration: Configuration,
-    budget: usize,
-    limit: usize,
-    out: &mut [i64],
-    spare: &mut [i64],
-) -> Ended
-    requires { Allowed (length configuration.words.now / 2) budget limit (length out.old) (length spare.old) }
-    ensures { RunEnds table.entry.words.now configuration.entry.words.now budget limit out.old spare.old out.new spare.new result }
+fn advance(game: Game, budget: usize, limit: usize, out: &mut [i64], spare: &mut [i64]) -> Ended
+    requires { Allowed (length game.configuration.words.now / 2) budget limit (length out.old) (length spare.old) }
+    ensures { RunEnds game.entry.table.words.now game.entry.configuration.words.now budget limit out.old spare.old out.new spare.new result }
 {
     let words = 2 * limit;
     let mut current = Current {
         side: Side::Initial,
-        nodes: configuration.words.len() / 2,
+        nodes: game.configuration.words.len() / 2,
     };
     for k in 0..=budget {
-        let answer = step_across(table, configuration, current, words, out, spare);
+        let answer = step_across(game, current, words, out, spare);
         match judge(answer, k, budget) {
             ControlFlow::Continue(nodes) => {
                 current = Current {
@@ -172,36 +175,34 @@ fn run_short(limit: usize, out: usize, spare: usize) -> bool
 
 // The run of checked words, where nothing is refused. A function on checked words, for crates above.
 pub fn run_accepted(
-    table: Table,
-    configuration: Configuration,
+    game: Game,
     budget: usize,
     limit: usize,
     out: &mut [i64],
     spare: &mut [i64],
 ) -> RunAnswer
-    requires { Allowed (length configuration.words.now / 2) budget limit (length out.old) (length spare.old) }
-    ensures { RunContract table.entry.words.now configuration.entry.words.now budget limit out.old spare.old out.new spare.new (Ok result) }
+    requires { Allowed (length game.configuration.words.now / 2) budget limit (length out.old) (length spare.old) }
+    ensures { RunContract game.entry.table.words.now game.entry.configuration.words.now budget limit out.old spare.old out.new spare.new (Ok result) }
 {
-    let ended = advance(table, configuration, budget, limit, out, spare);
-    finish(ended.last, 2 * limit, configuration.words, out, spare);
+    let ended = advance(game, budget, limit, out, spare);
+    finish(ended.last, 2 * limit, game.configuration.words, out, spare);
     ended.answer
 }
 
 // The run of checked words: refusals 3 to 5, then the steps.
 fn run_checked(
-    table: Table,
-    configuration: Configuration,
+    game: Game,
     budget: usize,
     limit: usize,
     out: &mut [i64],
     spare: &mut [i64],
 ) -> Result<RunAnswer, Refusal>
-    ensures { RunContract table.entry.words.now configuration.entry.words.now budget limit out.old spare.old out.new spare.new result }
+    ensures { RunContract game.entry.table.words.now game.entry.configuration.words.now budget limit out.old spare.old out.new spare.new result }
 {
-    let nodes = configuration.words.len() / 2;
+    let nodes = game.configuration.words.len() / 2;
     let short = run_short(limit, out.len(), spare.len());
     sizes::check_sizes(budget, MAX_STEPS, nodes, limit, short)?;
-    Ok(run_accepted(table, configuration, budget, limit, out, spare))
+    Ok(run_accepted(game, budget, limit, out, spare))
 }
 
 // The run: a budget of steps, a limit in nodes, out and spare of at least twice as many words.
@@ -216,6 +217,6 @@ pub fn run(
     ensures { RunContract table.now configuration.now budget limit out.old spare.old out.new spare.new result }
 {
     let mut index = Index::EMPTY;
-    let (table, configuration) = step::checked(&mut index, table, configuration)?;
-    run_checked(table, configuration, budget, limit, out, spare)
+    let game = step::checked(&mut index, table, configuration)?;
+    run_checked(game, budget, limit, out, spare)
 }

@@ -32,12 +32,13 @@ use Rattle.minuska.proofs.ContractLaw.{step_by_rule_contract, step_contract}
 use Rattle.minuska.proofs.Bridge.IndexLaw.{one_table}
 use Rattle.minuska.proofs.Bridge.RootLaw.{root_misses}
 use Rattle.minuska.proofs.Bridge.PositionLaw.{element_at, element_there, order_length, order_names}
+use Rattle.table.specs.Candidate.{Unnamed, FirstIs}
 use Rattle.table.proofs.IndexLaw.{positions_of}
 use Rattle.step.specs.declared.rule.Obstacle.{Obstacle}
 use Rattle.step.specs.Apply.{Candidate, Matched, SomeMatched, Instantiated}
 use Rattle.step.specs.Verdict.{VerdictIs, JudgeIs}
 use Rattle.step.specs.Among.{positions, KeyFor, step_of, verdict_told, AmongIs}
-use Rattle.step.proofs.ApplyLaw.{outcome_by, step_by, instantiated_answer, instantiated_out_lem, unmatched, verdict_applies, past_successor}
+use Rattle.step.proofs.ApplyLaw.{outcome_by, step_by, instantiated_answer, instantiated_out_lem, unmatched, verdict_applies}
 
 -- ---- the order from a position on
 at_position : {A : Type 0} (l : List A) (i : ℕ) (a : A) → get_elem? l i ≡ some a → drop i l ≡ a ∷ drop (suc i) l
@@ -62,16 +63,6 @@ module _ (t : Table) (i to : ℕ) where
 
 pub positions_all : (t : Table) (count : ℕ) → count ≡ length t → positions 0 count t ≡ order t
 positions_all t count e = take_all (count - 0) (order t) (omega (arith, order_length t))
-
--- every position of the order names a rule
-pub position_names : {ws : List ℤ} {index : List Row} {i to n : ℕ} → Indexed ws index → Positions ws to → i < to → OrderedIs ws i n → Names ws n
-position_names {ws} {index} {i} {to} {n} x s below o =
-    let t = x.table in
-    let k = s.there t x.is in
-    let h : i < length (order t) = omega arith in
-    let p : n ≡ get_or (order t) i 0 = o.is t x.is (get_or (order t) i 0) (element_at (order t) 0 i h) in
-    let (r, e) = element_there t n (omega (arith, order_names t i h)) in
-    record { table = t; is = x.is; rule = r; numbered = e }
 
 -- ---- a rule has a successor, or none, by its verdict
 module _ (ws cs : List ℤ) (n : ℕ) (a : Names ws n) where
@@ -162,8 +153,11 @@ module _ (ws cs : List ℤ) (first from to : ℕ) where
       behind : (t : Table) (g : Term) → IsTable ws t → IsConfiguration cs g → first_of t (first ∷ positions from to t) g ≡ first_of t (positions r to t) g
       behind t g p q = k.same t g p q ∙ (ap (λ (z : Option Term). or_next rule z (first_of t (positions i to t) g)) (f t g p q) ∙ sought ws cs root i to r s b key t g p q)
 
-      pub trying_on : (n : ℕ) → r < to → OrderedIs ws r n → Trying n (r + 1)
-      trying_on n below o = let l = k.low in let m = s.low in record { low = omega arith; only = λ e. absurd (let z : ⊥ = omega arith in z); same = λ t g p q. behind t g p q ∙ ap (λ (l : List ℕ). first_of t l g) (positions_next t r to p b below o) }
+      pub trying_on : (n i' : ℕ) → r < to → OrderedIs ws r n → i' ≡ r + 1 → Trying n i'
+      trying_on n i' below o e =
+          let l = k.low in
+          let m = s.low in
+          record { low = omega arith; only = λ e. absurd (let z : ⊥ = omega arith in z); same = λ t g p q. behind t g p q ∙ ap (λ (l : List ℕ). first_of t l g) (positions_next t r to p b below o ∙ ap (λ (j : ℕ). n ∷ positions j to t) (sym e)) }
 
       pub none_applies : (out : List ℤ) (o : Obstacle) → to ≤ r → (from ≡ to → VerdictIs ws cs first (Err o)) → AmongIs ws cs first from to out out (Ok (Err o))
       unfolding step_answer step_out
@@ -212,22 +206,15 @@ module _ (ws cs : List ℤ) (index : List Row) (out : List ℤ) (x : Indexed ws 
       alone none = refl
       alone (some h) = refl
 
-  pub no_such_rule : (n count : ℕ) → RuleCountIs ws count → count ≤ n → StepByRuleContract ws cs n out out (Ok None)
+  pub no_such_rule : (n : ℕ) → Unnamed ws n → StepByRuleContract ws cs n out out (Ok None)
   unfolding step_answer step_out
-  no_such_rule n count c h =
+  no_such_rule n u =
       let t = x.table in
       let g = y.term in
-      let e : count ≡ length t = c.is t x.is in
+      let e : successor_by t n g ≡ none = ap (λ (z : Option Rule). z >>= λ r. successor r g) (u.none t x.is) in
       let o : rule_outcome ws cs n (length out) ≡ gives stuck =
-      outcome_by ws cs n out t g x.is y.is ∙ ap (λ (s : Option Term). gives (answered t (out_limit (length out)) (with_number n s))) (past_successor ws cs n t g x.is y.is (omega arith)) in
+      outcome_by ws cs n out t g x.is y.is ∙ ap (λ (s : Option Term). gives (answered t (out_limit (length out)) (with_number n s))) e in
       step_by_rule_contract ws cs n out out (Ok None) (ap step_answer (sym o)) (ap (λ (z : Outcome StepResult). step_out z out) (sym o))
-
-  pub below_names : (n count : ℕ) → RuleCountIs ws count → n < count → Names ws n
-  below_names n count c h =
-      let t = x.table in
-      let e : count ≡ length t = c.is t x.is in
-      let (r, f) = element_there t n (omega arith) in
-      record { table = t; is = x.is; rule = r; numbered = f }
 
   -- ---- the step: all rules in their order
   module _ (count : ℕ) (c : RuleCountIs ws count) where
@@ -244,19 +231,20 @@ module _ (ws cs : List ℤ) (index : List Row) (out : List ℤ) (x : Indexed ws 
         ap (λ (z : Option (ℕ × Term)). gives (answered t (out_limit (length out)) z))
         (ap (λ (l : List ℕ). first_of t l g) (sym (positions_all t count (c.is t x.is))) ∙ sought ws cs root 0 count first s every_position (record { is = λ h. key }) t g x.is y.is)))
 
-    module _ (root first : ℕ) (key : RootKeyIs cs root) (s : SeekIs ws root 0 count first) where
-      pub none_at_all : count ≤ first → StepContract ws cs out out (Ok None)
-      unfolding step_answer step_out
-      none_at_all past =
-          let t = x.table in
-          let o : step_outcome ws cs (length out) ≡ gives stuck =
-          outcome_first root first key s ∙ ap (λ (l : List ℕ). gives (answered t (out_limit (length out)) (first_of t l y.term))) (positions_none t first count past) in
-          step_contract ws cs out out (Ok None) (ap step_answer (sym o)) (ap (λ (z : Outcome StepResult). step_out z out) (sym o))
+    pub none_at_all : (root first : ℕ) → RootKeyIs cs root → SeekIs ws root 0 count first → count ≤ first → StepContract ws cs out out (Ok None)
+    unfolding step_answer step_out
+    none_at_all root first key s past =
+        let t = x.table in
+        let o : step_outcome ws cs (length out) ≡ gives stuck =
+        outcome_first root first key s ∙ ap (λ (l : List ℕ). gives (answered t (out_limit (length out)) (first_of t l y.term))) (positions_none t first count past) in
+        step_contract ws cs out out (Ok None) (ap step_answer (sym o)) (ap (λ (z : Outcome StepResult). step_out z out) (sym o))
 
-      pub the_earliest : (n : ℕ) (out' : List ℤ) (r : Result (Result Stepped Obstacle) Refusal) → first < count → OrderedIs ws first n → AmongIs ws cs n (first + 1) count out out' r → StepContract ws cs out out' (step_of r)
-      the_earliest n out' r below o k =
-          let t = x.table in
-          let g = y.term in
-          let w : step_outcome ws cs (length out) ≡ gives (answered t (out_limit (length out)) (first_of t (n ∷ positions (first + 1) count t) g)) =
-          outcome_first root first key s ∙ ap (λ (l : List ℕ). gives (answered t (out_limit (length out)) (first_of t l g))) (positions_next t first count x.is every_position below o) in
-          step_contract ws cs out out' (step_of r) (k.answer t g x.is y.is ∙ ap step_answer (sym w)) (k.leaves t g x.is y.is ∙ ap (λ (z : Outcome StepResult). step_out z out) (sym w))
+  pub the_earliest : {root n root' from to : ℕ} → RootKeyIs cs root → FirstIs ws root n root' from to → {out' : List ℤ} {r : Result (Result Stepped Obstacle) Refusal} → AmongIs ws cs n from to out out' r → StepContract ws cs out out' (step_of r)
+  the_earliest {root} {n} {root'} {from} {to} key f {out'} {r} k =
+      let t = x.table in
+      let c = f.candidate in
+      let w : step_outcome ws cs (length out) ≡ gives (answered t (out_limit (length out)) (first_of t (n ∷ positions from to t) y.term)) =
+      outcome_first to f.count root c.position key c.sought ∙
+      ap (λ (l : List ℕ). gives (answered t (out_limit (length out)) (first_of t l y.term)))
+      (positions_next t c.position to x.is (every_position to f.count) c.below c.ordered ∙ ap (λ (i : ℕ). n ∷ positions i to t) (sym c.behind)) in
+      step_contract ws cs out out' (step_of r) (k.answer t y.term x.is y.is ∙ ap step_answer (sym w)) (k.leaves t y.term x.is y.is ∙ ap (λ (z : Outcome StepResult). step_out z out) (sym w))

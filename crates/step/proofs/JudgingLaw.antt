@@ -29,6 +29,8 @@ use Rattle.step.specs.Apply.{Candidate}
 use Rattle.step.specs.Verdict.{obstacle_of, verdict_for, VerdictIs}
 use Rattle.step.specs.Among.{positions}
 use Rattle.step.specs.Reasons.{found_as, Fresh, JudgeAllIs}
+use Rattle.table.specs.Candidate.{CandidateIs, FirstIs, NoneFirst}
+use Rattle.table.proofs.IndexLaw.{positions_of}
 use Rattle.step.proofs.AmongLaw.{positions_none, positions_next, positions_all, verdict_some, verdict_none, sought}
 
 -- ---- what has come of the rules before a position
@@ -153,3 +155,44 @@ module _ (ws cs : List ℤ) (count : ℕ) (b : Positions ws count) where
                 earlier : Dec (j < i) → j < i
                 earlier (yes m) = m
                 earlier (no m) = absurd (eqb-false n rule u (sym (o.is t q n (subst (λ (l : ℕ). get_elem? (order t) l ≡ some n) (let l : j ≡ i = omega (arith, m) in l) f))))
+
+-- ---- the turns of the loop, by its candidate
+module _ (ws cs : List ℤ) where
+  -- the rules before this candidate's position are judged
+  pub record Turn (count n from : ℕ) (obstacles : List Obstacle) : Type 0 where
+    pub position : ℕ
+    pub below : position < count
+    pub ordered : OrderedIs ws position n
+    pub behind : from ≡ position + 1
+    pub judging : Judging ws cs count position obstacles
+
+  module _ {obstacles : List Obstacle} (x : Fresh obstacles) {root : ℕ} (key : RootKeyIs cs root) where
+    pub none_first : NoneFirst ws root → JudgeAllIs ws cs obstacles None
+    none_first f =
+        let b = positions_of ws f.to f.to f.count (omega arith) in
+        all_judged ws cs f.to b f.to obstacles (judging_first ws cs f.to b f.count obstacles x root f.to key f.passed) f.count (omega arith)
+
+    pub turn_first : {n root' from to : ℕ} → Positions ws to → FirstIs ws root n root' from to → Turn to n from obstacles
+    turn_first {to = to} b f =
+        let c = f.candidate in
+        record { position = c.position; below = c.below; ordered = c.ordered; behind = c.behind; judging = judging_first ws cs to b f.count obstacles x root c.position key c.sought }
+
+  module _ {count n from : ℕ} {obstacles : List Obstacle} (t : Turn count n from obstacles) (b : Positions ws count) (a : Names ws n) {v : Result (Unit {0}) Obstacle} (w : VerdictIs ws cs n v) where
+    pub turn_found : {u : Unit {0}} → v ≡ Ok u → JudgeAllIs ws cs obstacles (Some n)
+    turn_found e = judged_first ws cs count b t.position obstacles t.judging t.below n t.ordered a v w e
+
+    pub turn_room : n < length obstacles
+    turn_room = rule_room ws cs count b t.position obstacles t.judging t.below n t.ordered a v w
+
+    module _ {obstacle : Obstacle} (e : v ≡ Err obstacle) {root : ℕ} (key : RootKeyIs cs root) where
+      past : (r : ℕ) → SeekIs ws root from count r → Judging ws cs count r (set obstacles n obstacle)
+      past r s =
+          judging_past ws cs count b from (set obstacles n obstacle)
+          (subst (λ (i : ℕ). Judging ws cs count i (set obstacles n obstacle)) (sym t.behind) (judging_on ws cs count b t.position obstacles t.judging t.below n t.ordered a v w e))
+          root r key s
+
+      pub none_behind : RuleCountIs ws count → SeekIs ws root from count count → JudgeAllIs ws cs (set obstacles n obstacle) None
+      none_behind c s = all_judged ws cs count b count (set obstacles n obstacle) (past count s) c (omega arith)
+
+      pub turn_on : {n' root' from' to' : ℕ} → CandidateIs ws root from count n' root' from' to' → Turn count n' from' (set obstacles n obstacle)
+      turn_on c = record { position = c.position; below = c.below; ordered = c.ordered; behind = c.behind; judging = past c.position c.sought }

@@ -7,7 +7,7 @@ use mathlib.Core.List.{List}
 use Prim.Native.Nat.{ℕ, ◌+◌, ◌*◌, ◌≤◌, ◌<◌}
 use native.Mathlib.Omega.{arith}
 use lib.IntN.{ℤ}
-use lib.ListN.{length, get_elem?}
+use lib.ListN.{get_elem?}
 use Rattle.minuska.specs.Term.{Term, node_count}
 use Rattle.minuska.specs.Satisfaction.{SideCondition}
 use Rattle.minuska.specs.Rule.{Rule}
@@ -16,7 +16,7 @@ use Rattle.minuska.specs.Slice.{match_answer}
 use Rattle.minuska.specs.declared.MatchAnswer.TheVariants as M
 use Rattle.minuska.specs.Computed.Compare.{Comparison, agreed, apart, comparison, nodes_compared, match_numbered, match_rule}
 use Rattle.minuska.specs.Computed.Outcome.{match_outcome}
-use Rattle.minuska.specs.Bridge.Place.{Indexed, Names, Accepted, RuleCountIs, left_words, PartIs}
+use Rattle.minuska.specs.Bridge.Place.{Indexed, Names, Accepted, left_words, PartIs}
 use Rattle.minuska.specs.Contract.{MatchRuleContract}
 use Rattle.minuska.proofs.ShutLaw.{match_rule_is, match_outcome_is}
 use Rattle.minuska.proofs.OutcomeLaw.{on_words_lem}
@@ -28,11 +28,10 @@ use Rattle.minuska.specs.Computed.Reasons.{failing, reason_by, reason}
 use Rattle.minuska.proofs.Good.{good}
 use Rattle.minuska.proofs.StepLaw.{rule_okay}
 use Rattle.minuska.proofs.ObstacleLaw.{place_below}
-use Rattle.minuska.proofs.Bridge.PositionLaw.{element_there}
 use Rattle.step.specs.declared.rule.Obstacle.{Obstacle}
 use Rattle.step.specs.declared.rule.Obstacle.TheVariants.{Left}
 use Rattle.step.specs.Verdict.{verdict_for, verdict_of, VerdictIs}
-use Rattle.step.proofs.ApplyLaw.{past_none}
+use Rattle.table.specs.Candidate.{Unnamed}
 use Rattle.step.proofs.AmongLaw.{candidate}
 
 -- ---- the nodes that are compared, by the verdict
@@ -49,7 +48,10 @@ module _ (l : Term) (conds : List SideCondition) where
   all_agree (agreed ρ) f = refl
   all_agree (apart j) f = absurd (f j refl)
 
--- ---- the answers of `compare_rule`
+pub left_in_order : {ws : List ℤ} {n : ℕ} → Names ws n → {from to : ℕ} → PartIs left_words ws n from to → from ≤ to
+left_in_order a p = omega (arith, p.ends a.table a.rule a.is a.numbered)
+
+-- ---- the answers of `compare`
 module _ (ws cs : List ℤ) (index : List Row) (n : ℕ) (x : Indexed ws index) (y : Accepted cs) where
   outcome_by : match_outcome ws cs n ≡ gives (match_numbered (get_elem? x.table n) y.term)
   outcome_by =
@@ -57,21 +59,9 @@ module _ (ws cs : List ℤ) (index : List Row) (n : ℕ) (x : Indexed ws index) 
       (on_words_lem ws cs x.table y.term x.is y.is (λ u h. gives (match_rule u n h)) ∙
       ap {B = Outcome MatchResult} gives (match_rule_is x.table n y.term))
 
-  pub no_left : (count : ℕ) → RuleCountIs ws count → count ≤ n → MatchRuleContract ws cs n (Ok (M.Differs 0))
+  pub no_left : Unnamed ws n → MatchRuleContract ws cs n (Ok (M.Differs 0))
   unfolding match_answer
-  no_left count c h =
-      let e : count ≡ length x.table = c.is x.table x.is in
-      match_rule_contract ws cs n (Ok (M.Differs 0))
-      (ap match_answer (sym (outcome_by ∙ ap (λ (o : Option Rule). gives (match_numbered o y.term)) (past_none x.table n (omega arith)))))
-
-  pub named : (count : ℕ) → RuleCountIs ws count → n < count → Names ws n
-  named count c h =
-      let e : count ≡ length x.table = c.is x.table x.is in
-      let (r, f) = element_there x.table n (omega arith) in
-      record { table = x.table; is = x.is; rule = r; numbered = f }
-
-  pub left_in_order : Names ws n → {from to : ℕ} → PartIs left_words ws n from to → from ≤ to
-  left_in_order a p = omega (arith, p.ends a.table a.rule a.is a.numbered)
+  no_left u = match_rule_contract ws cs n (Ok (M.Differs 0)) (ap match_answer (sym (outcome_by ∙ ap (λ (o : Option Rule). gives (match_numbered o y.term)) (u.none x.table x.is))))
 
   module _ (a : Names ws n) {v : Result (Unit {0}) Obstacle} (w : VerdictIs ws cs n v) where
     abbrev rule : Rule

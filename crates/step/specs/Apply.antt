@@ -15,9 +15,8 @@ use Rattle.minuska.specs.Computed.Compare.{comparison}
 use Rattle.minuska.specs.Computed.Reasons.{failing}
 use Rattle.minuska.specs.Computed.Value.{value}
 use Rattle.minuska.specs.Bridge.Place.{Binds}
-use Rattle.term.specs.declared.configuration.Configuration.{Configuration}
 use Rattle.term.specs.declared.places.Places.{Places}
-use Rattle.table.specs.declared.checked.Table as checked
+use Rattle.step.specs.declared.rule.Attempt.{Attempt}
 use Rattle.step.specs.Matching.{compared_by}
 use Rattle.step.specs.Conditions.{failed_by}
 
@@ -73,25 +72,25 @@ pub record Instantiated (ws cs : List ℤ) (n : ℕ) (starts ends : List ℕ) (o
   pub answer : (rule : Rule) (g : Term) (ρ : Valuation) (h : Term) → Matched ws cs n starts ends rule g ρ → value ρ rule.right ≡ some h → r ≡ instantiated_as (out_limit (length out)) n rule.action h
   pub leaves : (rule : Rule) (g : Term) (ρ : Valuation) (h : Term) → Matched ws cs n starts ends rule g ρ → value ρ rule.right ≡ some h → out' ≡ instantiated_out (out_limit (length out)) h out
 
--- THE SAME OVER A CHECKED TABLE, A CONFIGURATION AND THE PLACES OF A MATCH, as the contracts of the code name it
-module _ (t : checked.Table) (c : Configuration) (p : Places) where
-  abbrev pub MatchedHere : ℕ → Type 0
-  MatchedHere n = SomeMatched t.words.now c.words.now n p.starts p.ends
+-- THE SAME OVER A RULE AT A CONFIGURATION AND THE PLACES OF A MATCH, as the contracts of the code name it
+module _ (a : Attempt) (p : Places) where
+  abbrev pub MatchedHere : Type 0
+  MatchedHere = SomeMatched a.rule.table.words.now a.configuration.words.now a.rule.number p.starts p.ends
 
-  abbrev pub MatchIsHere : ℕ → Result (Unit {0}) ℕ → Type 0
-  MatchIsHere n r = MatchIs t.words.now c.words.now n p.starts p.ends r
+  abbrev pub MatchIsHere : Result (Unit {0}) ℕ → Type 0
+  MatchIsHere r = MatchIs a.rule.table.words.now a.configuration.words.now a.rule.number p.starts p.ends r
 
-  abbrev pub HoldIsHere : ℕ → Result (Unit {0}) ℕ → Type 0
-  HoldIsHere n r = HoldIs t.words.now c.words.now n p.starts p.ends r
+  abbrev pub HoldIsHere : Result (Unit {0}) ℕ → Type 0
+  HoldIsHere r = HoldIs a.rule.table.words.now a.configuration.words.now a.rule.number p.starts p.ends r
 
-  abbrev pub FitsIsHere : ℕ → ℕ → Bool → Type 0
-  FitsIsHere n room r = FitsIs t.words.now c.words.now n p.starts p.ends room r
+  abbrev pub FitsIsHere : ℕ → Bool → Type 0
+  FitsIsHere room r = FitsIs a.rule.table.words.now a.configuration.words.now a.rule.number p.starts p.ends room r
 
-  abbrev pub WordsFitHere : ℕ → ℕ → Type 0
-  WordsFitHere n room = WordsFit t.words.now c.words.now n p.starts p.ends room
+  abbrev pub WordsFitHere : ℕ → Type 0
+  WordsFitHere room = WordsFit a.rule.table.words.now a.configuration.words.now a.rule.number p.starts p.ends room
 
-  abbrev pub WriteIsHere : ℕ → List ℤ → List ℤ → ℕ → Type 0
-  WriteIsHere n out out' r = WriteIs t.words.now c.words.now n p.starts p.ends out out' r
+  abbrev pub WriteIsHere : List ℤ → List ℤ → ℕ → Type 0
+  WriteIsHere out out' r = WriteIs a.rule.table.words.now a.configuration.words.now a.rule.number p.starts p.ends out out' r
 
-  abbrev pub InstantiatedHere : ℕ → List ℤ → List ℤ → Result Stepped Refusal → Type 0
-  InstantiatedHere n out out' r = Instantiated t.words.now c.words.now n p.starts p.ends out out' r
+  abbrev pub InstantiatedHere : List ℤ → List ℤ → Result Stepped Refusal → Type 0
+  InstantiatedHere out out' r = Instantiated a.rule.table.words.now a.configuration.words.now a.rule.number p.starts p.ends out out' r

@@ -11,9 +11,8 @@ use Rattle.minuska.specs.Bridge.Place.{Binds}
 use Rattle.step.specs.declared.rule.Obstacle.{Obstacle}
 use Rattle.step.specs.declared.rule.Obstacle.TheVariants.{Left, Condition}
 use Rattle.step.specs.Apply.{Candidate}
-use Rattle.term.specs.declared.configuration.Configuration.{Configuration}
 use Rattle.term.specs.declared.places.Places.{Places}
-use Rattle.table.specs.declared.checked.Table as checked
+use Rattle.step.specs.declared.rule.Attempt.{Attempt}
 
 -- an obstacle as the code has it
 abbrev pub obstacle_of : Reason → Obstacle
@@ -36,6 +35,9 @@ pub record JudgeIs (ws cs : List ℤ) (n : ℕ) (starts' ends' : List ℕ) (r : 
   pub verdict : VerdictIs ws cs n r
   pub binds : (rule : Rule) (g : Term) (ρ : Valuation) → Candidate ws cs n rule g → try_match (single rule.left) (single g) unbound ≡ some ρ → Binds cs starts' ends' ρ
 
--- the same over a checked table, a configuration and places, as the code's contracts name it
-abbrev pub JudgeIsHere : checked.Table → Configuration → Places → ℕ → Result (Unit {0}) Obstacle → Type 0
-JudgeIsHere t c p n r = JudgeIs t.words.now c.words.now n p.starts p.ends r
+-- the same over a rule at a configuration and places, as the code's contracts name it
+abbrev pub VerdictHere : Attempt → Result (Unit {0}) Obstacle → Type 0
+VerdictHere a r = VerdictIs a.rule.table.words.now a.configuration.words.now a.rule.number r
+
+abbrev pub JudgeIsHere : Attempt → Places → Result (Unit {0}) Obstacle → Type 0
+JudgeIsHere a p r = JudgeIs a.rule.table.words.now a.configuration.words.now a.rule.number p.starts p.ends r

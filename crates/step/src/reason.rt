@@ -2,33 +2,29 @@
 ghost use Rattle.std.specs.Prelude.{◌*◌, ◌≤◌, length, All};
 ghost use Rattle.step.specs.Reasons.{Fresh, JudgeAllIs, IsSmall, PutAllIs};
 
-use crate::rule::Obstacle;
-use table::checked::Table;
-use term::configuration::Configuration;
+use crate::Game;
+use crate::rule::{Attempt, Obstacle};
 
 // The earliest rule that applies, if any. In a list that has for each rule that its left's first node disagrees stand the obstacles of all rules before that, found
 // as a step finds it: so a rule that is passed over by its left's root keeps what is there.
-pub fn judge_all(
-    table: Table,
-    configuration: Configuration,
-    obstacles: &mut [Obstacle],
-) -> Option<usize>
+pub fn judge_all(game: Game, obstacles: &mut [Obstacle]) -> Option<usize>
     requires { Fresh obstacles.old }
-    ensures { JudgeAllIs table.entry.words.now configuration.entry.words.now obstacles.new result }
+    ensures { JudgeAllIs game.entry.table.words.now game.entry.configuration.words.now obstacles.new result }
 {
-    let root = table::key::root(configuration.words);
-    let count = table.rules();
-    let mut position = table.seek(root, 0, count);
-    // A while loop: positions are passed over by a search.
-    while position < count {
-        let rule = table.ordered(position);
-        let Err(obstacle) = crate::judge_alone(table, configuration, rule) else {
-            return Some(rule);
+    let root = table::key::root(game.configuration.words);
+    let mut tried = game.table.first(root)?;
+    // A loop: each candidate says which is the next.
+    loop {
+        let rule = tried.rule;
+        let Err(obstacle) = crate::judge_alone(Attempt {
+            rule,
+            configuration: game.configuration,
+        }) else {
+            return Some(rule.number);
         };
-        obstacles[rule] = obstacle;
-        position = table.seek(root, position + 1, count);
+        obstacles[rule.number] = obstacle;
+        tried = tried.next()?;
     }
-    None
 }
 
 // Writes two words for each obstacle: 0 where the left disagrees and the place, 1 where a condition fails and its number.

@@ -15,10 +15,11 @@ use Rattle.minuska.specs.Rule.{Rule, Table, rule_words, IsTable}
 use Rattle.minuska.specs.Computed.Step.{up_from, order}
 use Rattle.minuska.specs.Bridge.Place.{Stands, left_words, right_words, conditions_words, left_from, right_from, conditions_from, first_rule, rule_places, Indexed, Names, PartIs, RuleCountIs, ActionIs, OrderedIs, SizesAre, Positions}
 use Rattle.minuska.proofs.Bridge.IndexLaw.{one_table, rule_placed, left_stands_lem, right_stands, conditions_stand}
-use Rattle.minuska.proofs.Bridge.PositionLaw.{element_there, few_rules, order_length}
+use Rattle.minuska.proofs.Bridge.PositionLaw.{element_at, element_there, few_rules, order_length, order_names}
 use Rattle.minuska.proofs.OrderLaw.{named_below}
 use Rattle.minuska.specs.declared.Row.{Row}
 use Rattle.table.specs.Index.{RowIs}
+use Rattle.table.specs.Candidate.{Unnamed}
 
 -- ---- positions up to the rule count are there
 pub positions_of : (ws : List ℤ) (count to : ℕ) → RuleCountIs ws count → to ≤ count → Positions ws to
@@ -35,12 +36,11 @@ names_iff ws t count n c p =
     let e = c.is t p in
     ((λ h. let k = named_below t n h.0 h.1 in omega arith), λ h. element_there t n (omega arith))
 
-pub no_rule : (ws : List ℤ) (count : ℕ) → RuleCountIs ws count → (n : ℕ) → count ≤ n → ActionIs ws n 0
-no_rule ws count c n h =
-    record {
-      is = λ t r p e. absurd (let k = named_below t n r e in let q = c.is t p in let f : ⊥ = omega arith in f);
-      other = λ t p e. refl;
-    }
+pub unnamed_past : (ws : List ℤ) (count : ℕ) → RuleCountIs ws count → (n : ℕ) → count ≤ n → Unnamed ws n
+unnamed_past ws count c n h = record { none = λ t p. let e = c.is t p in unnamed t n (omega arith) }
+
+pub no_action : {ws : List ℤ} {n : ℕ} → Unnamed ws n → ActionIs ws n 0
+no_action u = record { is = λ t r p e. absurd (none-ne-some r (sym (u.none t p) ∙ e)); other = λ t p e. refl }
 
 pub names_below : (ws : List ℤ) (index : List Row) → Indexed ws index → (count : ℕ) → RuleCountIs ws count → (n : ℕ) → n < count → Names ws n
 names_below ws index x count c n h =
@@ -120,3 +120,13 @@ ordered_is ws q =
             let k = leb-false (length t) q h in
             let w = element_there (order t) q (omega arith) in
             absurd (none-ne-some w.0 (sym e ∙ w.1))
+
+-- every position of the order names a rule
+pub position_names : {ws : List ℤ} {index : List Row} {i to n : ℕ} → Indexed ws index → Positions ws to → i < to → OrderedIs ws i n → Names ws n
+position_names {ws} {index} {i} {to} {n} x s below o =
+    let t = x.table in
+    let k = s.there t x.is in
+    let h : i < length (order t) = omega arith in
+    let p : n ≡ get_or (order t) i 0 = o.is t x.is (get_or (order t) i 0) (element_at (order t) 0 i h) in
+    let (r, e) = element_there t n (omega (arith, order_names t i h)) in
+    record { table = t; is = x.is; rule = r; numbered = e }

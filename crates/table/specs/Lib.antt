@@ -9,3 +9,4 @@ pub mod Rule
 pub mod Part
 pub mod Index
 pub mod Checked
+pub mod Candidate

@@ -4,5 +4,5 @@ use Rattle.run.proofs.EndingLaw.{turned_back_lem}
 use Rattle.run.proofs.run.Goals as goal
 
 -- the two checks refuse
-pub returns-in_err-table : goal.returns-in_err-table
-returns-in_err-table c = let p = err_from_is_err_and c.from_residual.result c.from_residual.ensures.1 in rw (p.1, p.2) (turned_back_lem _ _ _ _ _ _ _ (early_refused _ _ _ _ _ _ _ c.in_err-table.ensures.bad))
+pub returns-in_err-game : goal.returns-in_err-game
+returns-in_err-game c = let p = err_from_is_err_and c.from_residual.result c.from_residual.ensures.1 in rw (p.1, p.2) (turned_back_lem _ _ _ _ _ _ _ (early_refused _ _ _ _ _ _ _ c.in_err-game.ensures.bad))

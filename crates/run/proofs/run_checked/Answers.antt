@@ -21,14 +21,14 @@ returns-in_err-check_sizes c =
     let a = c.args in
     let p = err_from_is_err_and c.from_residual.result c.from_residual.ensures.1 in
     let e = c.in_err-check_sizes.field-0.0 in
-    let i = a.table.indexed in
-    let g = a.configuration.accepted in
-    let s = size_is c.run_short-short.result _ a.budget (length a.configuration.words.now / 2) a.limit c.check_sizes.result (Err e) c.check_sizes.ensures c.run_short-short.ensures c.in_err-check_sizes.was in
-    rw (p.1, p.2) (turned_back_lem a.table.words.now a.configuration.words.now a.budget a.limit a.out.now a.spare.now e
-    (late_refused a.table.words.now a.configuration.words.now a.budget a.limit (length a.out.now) (length a.spare.now) i.table g.term i.is g.is e s))
+    let i = a.game.table.indexed in
+    let g = a.game.configuration.accepted in
+    let s = size_is c.run_short-short.result _ a.budget (length a.game.configuration.words.now / 2) a.limit c.check_sizes.result (Err e) c.check_sizes.ensures c.run_short-short.ensures c.in_err-check_sizes.was in
+    rw (p.1, p.2) (turned_back_lem a.game.table.words.now a.game.configuration.words.now a.budget a.limit a.out.now a.spare.now e
+    (late_refused a.game.table.words.now a.game.configuration.words.now a.budget a.limit (length a.out.now) (length a.spare.now) i.table g.term i.is g.is e s))
 
 pub run_accepted-requires : goal.run_accepted-requires
 run_accepted-requires c =
     let a = c.args in
-    let s = size_is c.run_short-short.result _ a.budget (length a.configuration.words.now / 2) a.limit c.check_sizes.result (Ok tt) c.check_sizes.ensures c.run_short-short.ensures c.in_ok-check_sizes.was in
-    sized a.budget max_steps (length a.configuration.words.now / 2) a.limit (run_short a.limit (length a.out.now) (length a.spare.now)) s
+    let s = size_is c.run_short-short.result _ a.budget (length a.game.configuration.words.now / 2) a.limit c.check_sizes.result (Ok tt) c.check_sizes.ensures c.run_short-short.ensures c.in_ok-check_sizes.was in
+    sized a.budget max_steps (length a.game.configuration.words.now / 2) a.limit (run_short a.limit (length a.out.now) (length a.spare.now)) s

@@ -3,5 +3,5 @@ use Rattle.step.proofs.AcceptLaw.{refused_by_rule}
 use Rattle.step.proofs.step_by_rule.Goals as goal
 
 -- the two checks refuse
-pub returns-in_err-table : goal.returns-in_err-table
-returns-in_err-table c = let p = err_from_is_err_and c.from_residual.result c.from_residual.ensures.1 in rw (p.1, p.2) (refused_by_rule _ _ _ _ c.in_err-table.ensures.bad _)
+pub returns-in_err-game : goal.returns-in_err-game
+returns-in_err-game c = let p = err_from_is_err_and c.from_residual.result c.from_residual.ensures.1 in rw (p.1, p.2) (refused_by_rule _ _ _ _ c.in_err-game.ensures.bad _)

@@ -1,39 +1,46 @@
-use Rattle.std.proofs.Common.{arith}
-use Rattle.table.proofs.IndexLaw.{positions_of}
-use Rattle.step.proofs.AmongLaw.{position_names}
-use Rattle.step.proofs.JudgingLaw.{judging_first, judging_past, judging_on, judged_first, all_judged, rule_room, few_places}
+use Rattle.std.proofs.Common.{arith, ◌∙◌}
+use Rattle.step.proofs.JudgingLaw.{few_places, none_first, turn_first, turn_found, turn_room, none_behind, turn_on}
 use Rattle.step.proofs.reason.judge_all.Goals as goal
 
-pub seek-position-requires : goal.seek-position-requires
-seek-position-requires c = (positions_of _ _ _ c.rules-count.ensures (omega arith), omega arith)
+pub returns-in_err-tried : goal.returns-in_err-tried
+returns-in_err-tried c = rw c.from_residual.ensures (none_first _ _ c.requires c.root-root.ensures c.in_err-tried.ensures.none)
 
-pub loop-position-init : goal.loop-position-init
-loop-position-init c = judging_first _ _ _ (positions_of _ _ _ c.rules-count.ensures (omega arith)) c.rules-count.ensures _ c.requires _ _ c.root-root.ensures c.seek-position.ensures
-
-pub judge_alone-requires : goal.judge_alone-requires
-judge_alone-requires c = position_names c.args.table.indexed (positions_of _ _ _ c.rules-count.ensures (omega arith)) c.loop-position-test.true c.ordered-rule.ensures
+pub loop-obstacle-init : goal.loop-obstacle-init
+loop-obstacle-init c =
+    let s = c.in_ok-tried.ensures.some in
+    record {
+      table = s.0;
+      key = rw s.1.candidate.same_root c.root-root.ensures;
+      count = s.1.count;
+      turn = turn_first _ _ c.requires c.root-root.ensures (rw s.0 at c.in_ok-tried.tried.there) s.1;
+    }
 
 pub returns-in_default : goal.returns-in_default
 returns-in_default c =
-    let b = positions_of _ _ _ c.rules-count.ensures (omega arith) in
-    judged_first _ _ _ b _ _ c.loop-position.invariant c.loop-position-test.true _ c.ordered-rule.ensures (position_names c.args.table.indexed b c.loop-position-test.true c.ordered-rule.ensures) _ c.judge_alone.ensures c.in_default.is
+    let i = c.loop-obstacle.invariant in
+    turn_found _ _ i.turn (rw i.table at c.loop-obstacle.tried.there) (rw i.table at c.loop-obstacle.tried.rule.named) (rw i.table at c.judge_alone.ensures) c.in_default.is
 
 pub offset_bounds-obstacles-rule : goal.offset_bounds-obstacles-rule
-offset_bounds-obstacles-rule c =
-    record { fits = omega (arith, few_places (position_names c.args.table.indexed (positions_of _ _ _ c.rules-count.ensures (omega arith)) c.loop-position-test.true c.ordered-rule.ensures)) }
+offset_bounds-obstacles-rule c = record { fits = omega (arith, few_places c.loop-obstacle.tried.rule.named) }
 
 pub bounds-obstacles-rule : goal.bounds-obstacles-rule
 bounds-obstacles-rule c =
-    let b = positions_of _ _ _ c.rules-count.ensures (omega arith) in
-    rule_room _ _ _ b _ _ c.loop-position.invariant c.loop-position-test.true _ c.ordered-rule.ensures (position_names c.args.table.indexed b c.loop-position-test.true c.ordered-rule.ensures) _ c.judge_alone.ensures
+    let i = c.loop-obstacle.invariant in
+    turn_room _ _ i.turn (rw i.table at c.loop-obstacle.tried.there) (rw i.table at c.loop-obstacle.tried.rule.named) (rw i.table at c.judge_alone.ensures)
 
-pub seek-position-requires-in-loop-position : goal.seek-position-requires-in-loop-position
-seek-position-requires-in-loop-position c = (positions_of _ _ _ c.rules-count.ensures (omega arith), omega (arith, c.loop-position-test.true))
+pub returns-in_err-tried-2 : goal.returns-in_err-tried-2
+returns-in_err-tried-2 c =
+    let i = c.loop-obstacle.invariant in
+    rw c.from_residual-in_err-tried-2.ensures (none_behind _ _ i.turn (rw i.table at c.loop-obstacle.tried.there) (rw i.table at c.loop-obstacle.tried.rule.named) (rw i.table at c.judge_alone.ensures) c.in-Err.is i.key i.count (rw i.table at c.in_err-tried-2.ensures.none))
 
-pub loop-position-preserved : goal.loop-position-preserved
-loop-position-preserved c =
-    let b = positions_of _ _ _ c.rules-count.ensures (omega arith) in
-    judging_past _ _ _ b _ _ (judging_on _ _ _ b _ _ c.loop-position.invariant c.loop-position-test.true _ c.ordered-rule.ensures (position_names c.args.table.indexed b c.loop-position-test.true c.ordered-rule.ensures) _ c.judge_alone.ensures c.in-Err.is) _ _ c.root-root.ensures c.seek-position-in-loop-position.ensures
-
-pub returns : goal.returns
-returns c = all_judged _ _ _ (positions_of _ _ _ c.rules-count.ensures (omega arith)) _ _ c.loop-position.invariant c.rules-count.ensures c.loop-position-test.false
+pub loop-obstacle-preserved : goal.loop-obstacle-preserved
+loop-obstacle-preserved c =
+    let i = c.loop-obstacle.invariant in
+    let s = c.in_ok-tried-2.ensures.some in
+    let k = rw i.table at s.1 in
+    record {
+      table = s.0 ∙ i.table;
+      key = rw k.same_root i.key;
+      count = rw k.same_end i.count;
+      turn = rw k.same_end (turn_on _ _ i.turn (rw i.table at c.loop-obstacle.tried.there) (rw i.table at c.loop-obstacle.tried.rule.named) (rw i.table at c.judge_alone.ensures) c.in-Err.is i.key k);
+    }

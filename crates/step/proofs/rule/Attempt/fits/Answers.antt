@@ -1,7 +1,7 @@
 -- The sizes of the right show that there is room, or else the measure decides.
 use Rattle.std.proofs.Common.{arith}
 use Rattle.step.proofs.RuleLaw.{some_rest, measured_is, shown_is, right_few, sizes_small, greater_of_two}
-use Rattle.step.proofs.rule.fits.Goals as goal
+use Rattle.step.proofs.rule.Attempt.fits.Goals as goal
 
 pub overflow_sub-right : goal.overflow_sub-right
 overflow_sub-right c = (right_few _ _ _ _ _ _ _ c.sizes-sizes.ensures _ _ c.right-right.ensures 0 c.requires).0
@@ -23,7 +23,7 @@ returns-then-sizes-most c =
     shown_is _ _ _ _ _ _ _ c.sizes-sizes.ensures _ _ c.right-right.ensures _ m.0 m.1 _ c.if-sizes-most.true
 
 pub measure_right-requires : goal.measure_right-requires
-measure_right-requires c = some_rest _ _ _ _ _ _ _ c.right-right.ensures c.requires
+measure_right-requires c = rw (c.scope-scope.ensures.table, c.scope-scope.ensures.configuration, c.scope-scope.ensures.places) (some_rest _ _ _ _ _ _ _ c.right-right.ensures c.requires)
 
 pub returns : goal.returns
-returns c = measured_is _ _ _ _ _ _ _ c.right-right.ensures _ _ c.measure_right.ensures
+returns c = measured_is _ _ _ _ _ _ _ c.right-right.ensures _ _ (rw (c.scope-scope.ensures.table, c.scope-scope.ensures.configuration, c.scope-scope.ensures.places) at c.measure_right.ensures)
