@@ -52,7 +52,7 @@ pub struct Evaluated {
     pub next: usize,
 }
 
-// Whether a side condition holds, and the place behind it.
+// Whether a side condition holds, and the place behind it. No Option: `next` is promised of a condition that fails, too.
 #[derive(Clone, Copy)]
 pub struct Tested {
     pub holds: bool,

@@ -36,14 +36,14 @@ impl<'a> Scope<'a> {
             Ok(entry) => (entry, n),
             Err(at) => (Span { from: at, to: at }, n + 1),
         };
-        if count <= MAX_ENTRIES as usize {
-            return Some(Plan {
-                replaced,
-                count,
-                key: key.datum,
-            });
+        if count > MAX_ENTRIES as usize {
+            return None;
         }
-        None
+        Some(Plan {
+            replaced,
+            count,
+            key: key.datum,
+        })
     }
 
     // The words of a value behind its first node: of a dictionary, its entries.

@@ -1,6 +1,6 @@
 -- One part behind another.
 use mathlib.Core.Path.{◌≡◌}
-use mathlib.Core.List.{[], ◌∷◌, ◌++◌}
+use mathlib.Core.List.{[], ◌∷◌}
 use native.Mathlib.Omega.{arith}
 use lib.IntN.{pos}
 use mir.Syntax.{w64}
@@ -8,7 +8,7 @@ use mir.Val.{to_z}
 use mir.Facts.{to_z-of_z, to_z_pos}
 use Rattle.value.specs.Builtin.{root_of}
 use Rattle.value.specs.Copy.{PutContract}
-use Rattle.value.proofs.CopyLaw.{behind, put_then}
+use Rattle.value.proofs.CopyLaw.{put_then}
 use Rattle.value.proofs.update.put_front.Goals as goal
 
 pub returns : goal.returns
