@@ -280,11 +280,11 @@ module _ (ws cs : List ℤ) (starts ends : List ℕ) (at end : ℕ) (below : at 
     item_words = record { is = λ ρ f us r. (x.is ρ f us r).leads }
 
     -- ---- `write_item`: an item ends within the table, and there is room for its words
-    module _ (o room : ℕ) (k : FittingItem ws cs starts ends at end o room) where
+    module _ (room : ℕ) (k : FittingItem ws cs starts ends at end room) where
       this_item : ItemOf ws cs starts ends at end k.rest.valuation k.rest.words s
       this_item = let i = k.rest in x.is i.valuation i.terms i.words i.is
 
-      pub item_room : Within ws cs s.value × (o + size_of s.value ≤ room)
+      pub item_room : Within ws cs s.value × (size_of s.value ≤ room)
       item_room =
           let g = this_item in
           (g.within, omega (arith, size_is ws cs s.value g.within, ap length g.leads.parted, length-append (value_words ws cs s.value) g.leads.words, k.fit))

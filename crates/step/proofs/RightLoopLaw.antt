@@ -7,13 +7,13 @@ use Prim.Native.Nat.{ℕ, ◌+◌, ◌-◌, ◌≤◌, ◌<◌}
 use native.Mathlib.Nat.{add-zero}
 use native.Mathlib.Omega.{arith}
 use lib.IntN.{ℤ}
-use lib.ListN.{length, drop, length-append}
-use lib.Seq.{take-append_seam, drop-append_seam, drop-drop}
+use lib.ListN.{length, length-append}
 use borrow.Author.Tests.{le-leb, lt-leb}
 use Rattle.minuska.specs.Term.{Forest, nil, node}
 use Rattle.minuska.specs.Satisfaction.{Valuation}
 use Rattle.minuska.specs.Slice.{write}
-use Rattle.value.specs.Copy.{written}
+use Rattle.value.specs.Copy.{PutContract}
+use Rattle.value.proofs.CopyLaw.{behind, put_back, put_room, put_then}
 use Rattle.step.specs.declared.right.Sized.{Sized}
 use Rattle.step.specs.Right.{Rest, SomeRest, LeadsOn, WordsAre, SizedOf, SizedIs, MeasureRightIs, FittingItem, FittingRest, WriteRightIs}
 
@@ -81,42 +81,37 @@ module _ (ws cs : List ℤ) (starts ends : List ℕ) (at end : ℕ) where
       pub measuring_forward : SomeRest ws cs starts ends at end → i < r.next
       measuring_forward s = let (so_far, c, e) = m.come s.valuation s.terms s.words s.is in (come_sized s.words s.valuation i so_far c r x).leads.forward
 
-  -- ---- `write_right`: the words so far stand at the start of the slice, the place behind them is o
+  -- ---- `write_right`: the words so far stand at the start of the slice, o of them
   pub record Writing (out₀ : List ℤ) (i o : ℕ) (out : List ℤ) : Type 0 where
-    pub come : (ρ : Valuation) (f : Forest) (us : List ℤ) → Rest ws cs starts ends at end ρ f us → (so_far : List ℤ) × Come us ρ i so_far × (o ≡ length so_far) × (out ≡ write so_far out₀)
+    pub come : (ρ : Valuation) (f : Forest) (us : List ℤ) → Rest ws cs starts ends at end ρ f us → (so_far : List ℤ) × Come us ρ i so_far × PutContract out₀ so_far out o
 
   pub writing_first : (out₀ : List ℤ) → Writing out₀ at 0 out₀
-  writing_first out₀ = record { come = λ ρ f us r. ([], come_first ρ f us r, refl, refl) }
-
-  -- words put behind those that were written
-  put_behind : (out xs ys : List ℤ) → written (write xs out) (length xs) ys ≡ write (xs ++ ys) out
-  unfolding written
-  put_behind out xs ys =
-      ap (λ (z : List ℤ). z ++ ys ++ drop (length xs + length ys) (xs ++ drop (length xs) out)) (take-append_seam xs (drop (length xs) out)) ∙ (ap (λ (z : List ℤ). xs ++ ys ++ z) behind ∙ ap (λ (n : ℕ). (xs ++ ys) ++ drop n out) (sym (length-append xs ys)))
-    where
-      behind : drop (length xs + length ys) (xs ++ drop (length xs) out) ≡ drop (length xs + length ys) out
-      behind =
-          sym (drop-drop (length ys) (length xs) (xs ++ drop (length xs) out)) ∙
-          (ap (drop (length ys)) (drop-append_seam xs (drop (length xs) out)) ∙ drop-drop (length ys) (length xs) out)
+  writing_first out₀ = record { come = λ ρ f us r. ([], come_first ρ f us r, record { leaves = refl; many = refl }) }
 
   module _ (out₀ : List ℤ) (i o : ℕ) (out : List ℤ) (m : Writing out₀ i o out) where
-    pub writing_fits : FittingRest ws cs starts ends at end (length out₀) → i < end → FittingItem ws cs starts ends i end o (length out₀)
+    pub writing_fits : FittingRest ws cs starts ends at end (length out₀) → i < end → FittingItem ws cs starts ends i end (length (behind out o))
     writing_fits k h =
         let s = k.rest in
-        let (so_far, c, e, f) = m.come s.valuation s.terms s.words s.is in
-        record { rest = record { valuation = s.valuation; terms = c.later; words = c.words; is = c.rest }; before = h; fit = omega (arith, k.fit, e, ap length c.joined, length-append so_far c.words) }
+        let (so_far, c, p) = m.come s.valuation s.terms s.words s.is in
+        record { rest = record { valuation = s.valuation; terms = c.later; words = c.words; is = c.rest }; before = h; fit = omega (arith, k.fit, put_room p, ap length c.joined, length-append so_far c.words) }
+
+    pub writing_within : FittingRest ws cs starts ends at end (length out₀) → o ≤ length out₀
+    writing_within k =
+        let s = k.rest in
+        let (so_far, c, p) = m.come s.valuation s.terms s.words s.is in
+        omega (arith, k.fit, p.many, ap length c.joined, length-append so_far c.words)
 
     pub all_written : end ≤ i → WriteRightIs ws cs starts ends at end out₀ out o
     all_written h =
         record {
-          is = λ ρ f us r. let (so_far, c, e, w) = m.come ρ f us r in w ∙ ap (λ (z : List ℤ). write z out₀) (come_end us ρ i so_far c h);
-          many = λ ρ f us r. let (so_far, c, e, w) = m.come ρ f us r in e ∙ ap length (come_end us ρ i so_far c h);
+          is = λ ρ f us r. let (so_far, c, p) = m.come ρ f us r in p.leaves ∙ ap (λ (z : List ℤ). write z out₀) (come_end us ρ i so_far c h);
+          many = λ ρ f us r. let (so_far, c, p) = m.come ρ f us r in p.many ∙ ap length (come_end us ρ i so_far c h);
         }
 
     module _ (v : List ℤ) (next : ℕ) (x : WordsAre ws cs starts ends i end v next) where
-      pub writing_on : (o' : ℕ) (out' : List ℤ) → out' ≡ written out o v → o' ≡ o + length v → Writing out₀ next o' out'
-      writing_on o' out' p q =
-          record { come = λ ρ f us z. let (so_far, c, e, w) = m.come ρ f us z in (so_far ++ v, come_on us ρ i so_far c v next (come_words us ρ i so_far c v next x), q ∙ (ap (λ (n : ℕ). n + length v) e ∙ sym (length-append so_far v)), p ∙ (ap (λ (y : List ℤ). written y o v) w ∙ (ap (λ (n : ℕ). written (write so_far out₀) n v) e ∙ put_behind out₀ so_far v))) }
+      pub writing_on : (o' : ℕ) (out' : List ℤ) → PutContract (behind out o) v out' o' → Writing out₀ next (o + o') (put_back out o out')
+      writing_on o' out' q =
+          record { come = λ ρ f us z. let (so_far, c, p) = m.come ρ f us z in (so_far ++ v, come_on us ρ i so_far c v next (come_words us ρ i so_far c v next x), put_then p q) }
 
       pub writing_forward : SomeRest ws cs starts ends at end → i < next
-      writing_forward s = let (so_far, c, e, w) = m.come s.valuation s.terms s.words s.is in (come_words s.words s.valuation i so_far c v next x).forward
+      writing_forward s = let (so_far, c, p) = m.come s.valuation s.terms s.words s.is in (come_words s.words s.valuation i so_far c v next x).forward

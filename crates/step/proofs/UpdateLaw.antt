@@ -152,8 +152,8 @@ module _ (ws cs : List ℤ) (starts ends : List ℕ) (at end : ℕ) (p : Parts) 
     pub parts_sized : (n : ℕ) → n ≡ length update_words → SizedIs ws cs starts ends at end (record { words = n; next = p.next })
     parts_sized n e = record { is = λ ρ f us r. record { first = update_words; many = e; leads = parts_words.is ρ f us r } }
 
-    pub parts_room : (o room : ℕ) → FittingItem ws cs starts ends at end o room → o + length update_words ≤ room
-    parts_room o room f =
+    pub parts_room : (room : ℕ) → FittingItem ws cs starts ends at end room → length update_words ≤ room
+    parts_room room f =
         let i = f.rest in
         let g = parts_words.is i.valuation i.terms i.words i.is in
         omega (arith, ap length g.parted, length-append update_words g.words, f.fit)

@@ -17,7 +17,6 @@ use Rattle.value.specs.Value.{value_words, Within, IsValue}
 use Rattle.value.specs.Copy.{PutContract}
 use Rattle.step.specs.declared.right.Parts.{Parts}
 use Rattle.step.specs.declared.right.Sized.{Sized}
-use Rattle.step.specs.declared.right.Written.{Written}
 
 module _ (ws cs : List ℤ) (starts ends : List ℕ) where
   -- from a place up to another stand the terms f of a right, and under ρ, whose terms the arrays place, they emit the words us
@@ -64,20 +63,20 @@ module _ (ws cs : List ℤ) (starts ends : List ℕ) where
   pub record MeasureRightIs (at end room : ℕ) (r : Bool) : Type 0 where
     pub is : (ρ : Valuation) (f : Forest) (us : List ℤ) → Rest at end ρ f us → r ≡ leb (length us) room
 
-  -- one item, written from a place of a slice on: some item that stands there, and the slice with its words put there
-  pub record FittingItem (at end o room : ℕ) : Type 0 where
+  -- one item, written from the start of a slice: some item that stands there, and the slice with its words put there
+  pub record FittingItem (at end room : ℕ) : Type 0 where
     pub rest : SomeRest at end
     pub before : at < end
-    pub fit : o + length rest.words ≤ room
+    pub fit : length rest.words ≤ room
 
   -- these words are the next, and the rest goes on from a place further on
   pub record WordsAre (at end : ℕ) (vs : List ℤ) (next : ℕ) : Type 0 where
     pub is : (ρ : Valuation) (f : Forest) (us : List ℤ) → Rest at end ρ f us → LeadsOn at end ρ us vs next
 
-  pub record WriteItemIs (at end : ℕ) (out : List ℤ) (o : ℕ) (out' : List ℤ) (r : Written) : Type 0 where
+  pub record WriteItemIs (at end : ℕ) (out out' : List ℤ) (r : Sized) : Type 0 where
     pub words : List ℤ
     pub item : WordsAre at end words r.next
-    pub puts : PutContract out o words out' r.place
+    pub puts : PutContract out words out' r.words
 
   pub record FittingRest (at end room : ℕ) : Type 0 where
     pub rest : SomeRest at end
@@ -144,11 +143,11 @@ module _ (s : Scope) where
   abbrev pub MeasureRightIsHere : ℕ → ℕ → ℕ → Bool → Type 0
   MeasureRightIsHere at end room r = MeasureRightIs s.table.now s.configuration.now s.places.now.starts s.places.now.ends at end room r
 
-  abbrev pub FittingItemHere : ℕ → ℕ → ℕ → ℕ → Type 0
-  FittingItemHere at end o room = FittingItem s.table.now s.configuration.now s.places.now.starts s.places.now.ends at end o room
+  abbrev pub FittingItemHere : ℕ → ℕ → ℕ → Type 0
+  FittingItemHere at end room = FittingItem s.table.now s.configuration.now s.places.now.starts s.places.now.ends at end room
 
-  abbrev pub WriteItemIsHere : ℕ → ℕ → List ℤ → ℕ → List ℤ → Written → Type 0
-  WriteItemIsHere at end out o out' r = WriteItemIs s.table.now s.configuration.now s.places.now.starts s.places.now.ends at end out o out' r
+  abbrev pub WriteItemIsHere : ℕ → ℕ → List ℤ → List ℤ → Sized → Type 0
+  WriteItemIsHere at end out out' r = WriteItemIs s.table.now s.configuration.now s.places.now.starts s.places.now.ends at end out out' r
 
   abbrev pub FittingRestHere : ℕ → ℕ → ℕ → Type 0
   FittingRestHere at end room = FittingRest s.table.now s.configuration.now s.places.now.starts s.places.now.ends at end room

@@ -92,7 +92,7 @@ fn update_parts(scope: &Scope, at: usize, end: usize) -> Parts
     }
 }
 
-// AN UPDATE'S SIZE.
+// An update's size.
 fn update_size(scope: &Scope, at: usize, end: usize) -> Sized
     requires { RestHere scope.now at end × (at < end) × IsUpdate scope.now.table.now at }
     ensures { SizedIsHere scope.now at end result }
@@ -147,62 +147,56 @@ pub fn measure_right(scope: &Scope, right: Span, room: usize) -> bool
     true
 }
 
-// The place behind an item's words, and the place behind the item.
-#[derive(Clone, Copy)]
-pub struct Written {
-    pub place: usize,
-    pub next: usize,
-}
-
-// AN UPDATE'S WORDS.
-fn write_update(scope: &Scope, at: usize, end: usize, out: &mut [i64], o: usize) -> Written
-    requires { FittingItemHere scope.now at end o (length out.old) × IsUpdate scope.now.table.now at }
-    ensures { WriteItemIsHere scope.now at end out.old o out.new result }
+// An update's words. Not inlined: the places of its parts would be reckoned in front of the loop over a right's items, 13 instructions more in a short step of 574.
+#[inline(never)]
+fn write_update(scope: &Scope, at: usize, end: usize, out: &mut [i64]) -> Sized
+    requires { FittingItemHere scope.now at end (length out.old) × IsUpdate scope.now.table.now at }
+    ensures { WriteItemIsHere scope.now at end out.old out.new result }
 {
     let p = update_parts(scope, at, end);
     let plan = scope.plan(p.dictionary, p.key);
-    Written {
-        place: scope.put_plan(out, o, p.dictionary, plan, p.term),
+    Sized {
+        words: scope.put_plan(out, p.dictionary, plan, p.term),
         next: p.next,
     }
 }
 
-// Writes one item's words from a place of out on.
-fn write_item(scope: &Scope, at: usize, end: usize, out: &mut [i64], o: usize) -> Written
-    requires { FittingItemHere scope.now at end o (length out.old) }
-    ensures { WriteItemIsHere scope.now at end out.old o out.new result }
+// Writes one item's words from the start of out.
+fn write_item(scope: &Scope, at: usize, end: usize, out: &mut [i64]) -> Sized
+    requires { FittingItemHere scope.now at end (length out.old) }
+    ensures { WriteItemIsHere scope.now at end out.old out.new result }
 {
     if is_update(scope.table, at) {
-        return write_update(scope, at, end, out, o);
+        return write_update(scope, at, end, out);
     }
-    write_value(scope, at, end, out, o)
+    write_value(scope, at, end, out)
 }
 
 // The words of an item that is no update: a short call's two as they are computed, a node's two, else those of the item's value.
-fn write_value(scope: &Scope, at: usize, end: usize, out: &mut [i64], o: usize) -> Written
-    requires { FittingItemHere scope.now at end o (length out.old) × NoUpdate scope.now.table.now at }
-    ensures { WriteItemIsHere scope.now at end out.old o out.new result }
+fn write_value(scope: &Scope, at: usize, end: usize, out: &mut [i64]) -> Sized
+    requires { FittingItemHere scope.now at end (length out.old) × NoUpdate scope.now.table.now at }
+    ensures { WriteItemIsHere scope.now at end out.old out.new result }
 {
     let tag = scope.table[at];
     if tag == term::CALL {
         if value::short::is_short_call(scope.table, at) {
             let root = scope.short_call(at);
-            return Written {
-                place: scope.put(out, o, Value::Computed(root)),
+            return Sized {
+                words: scope.put(out, Value::Computed(root)),
                 next: at + 6,
             };
         }
     } else if tag != term::VARIABLE {
         let datum = scope.table[at + 1];
         let node = Value::Computed(Root { tag, datum });
-        return Written {
-            place: scope.put(out, o, node),
+        return Sized {
+            words: scope.put(out, node),
             next: at + 2,
         };
     }
     let x = item(scope, at, end);
-    Written {
-        place: scope.put(out, o, x.value),
+    Sized {
+        words: scope.put(out, x.value),
         next: x.next,
     }
 }
@@ -216,8 +210,8 @@ pub fn write_right(scope: &Scope, right: Span, out: &mut [i64]) -> usize
     let mut o: usize = 0;
     // A while loop: each item says where the next begins.
     while i < right.to {
-        let x = write_item(scope, i, right.to, out, o);
-        o = x.place;
+        let x = write_item(scope, i, right.to, &mut out[o..]);
+        o += x.words;
         i = x.next;
     }
     o

@@ -1,14 +1,13 @@
--- What an update is worth, from where its entry goes; and its words, one part behind another.
+-- What an update is worth, from where its entry goes.
 use mathlib.Core.Path.{◌≡◌, refl, sym, ◌∙◌, ap, subst, subst⁻¹}
 use mathlib.Core.Bool.{Bool, true, false, cond}
 use mathlib.Core.Option.{Option, none, some}
-use mathlib.Core.List.{List, [], ◌∷◌, ◌++◌, append-nil, append_assoc}
+use mathlib.Core.List.{List, [], ◌∷◌, ◌++◌, append-nil}
 use Prim.Native.Nat.{ℕ, ◌+◌, ◌-◌, ◌≤◌, ◌<◌}
 use native.Mathlib.Omega.{arith}
 use lib.Dec.{T, leb, lit<}
 use lib.IntN.{ℤ, pos, nat_abs}
 use lib.ListN.{length, take, drop, length-append, length-take, length-drop}
-use lib.Seq.{drop-drop}
 use Rattle.minuska.specs.Basics.{◌>>=◌, provided, same_whole}
 use Rattle.minuska.specs.Term.{error, Term, cons, single, leaf, as_whole}
 use Rattle.minuska.specs.Dictionary.{Entries, max_entries, put, entry_terms, dictionary_term}
@@ -22,7 +21,6 @@ use Rattle.term.specs.declared.Span.{Span}
 use borrow.Author.Tests.{le-leb, lt-leb}
 use mir.Syntax.{w64}
 use mir.Val.{SFits, to_z, of_z}
-use Rattle.value.specs.Copy.{written, PutContract}
 use Rattle.value.specs.Root.{ValueIn, RootIs}
 use Rattle.minuska.specs.Rule.{updating}
 use Rattle.value.specs.Search.{EntriesAt, EntriesIn, SearchIs}
@@ -34,7 +32,6 @@ use Rattle.value.specs.declared.builtin.Root.{Root}
 use Rattle.value.specs.declared.update.Plan.{Plan}
 use Rattle.value.proofs.SignedLaw.{abs_back}
 use Rattle.value.proofs.BuiltinLaw.{tag_is}
-use Rattle.value.proofs.CopyLaw.{written_take, written_drop, written_length}
 use Rattle.value.proofs.EntriesLaw.{no_dictionary, DictionaryOf, dictionary_of}
 use Rattle.value.proofs.SearchLaw.{Slot, has_slot, lacks_slot}
 use Rattle.value.proofs.LookupLaw.{key_seen}
@@ -43,30 +40,6 @@ use Rattle.value.proofs.WordsLaw.{size_is}
 -- a term has two words or more
 pub two_at_least : (t : Term) → 2 ≤ length (encode (single t))
 two_at_least t = omega arith
-
--- ---- one part behind another
-two_written : (old : List ℤ) (at : ℕ) (xs ys : List ℤ) → at + length xs ≤ length old → written (written old at xs) (at + length xs) ys ≡ written old at (xs ++ ys)
-unfolding written
-two_written old at xs ys h =
-    let n : at + length xs + length ys ≡ at + length (xs ++ ys) = omega (arith, length-append xs ys) in
-    ap (λ (a : List ℤ). (a ++ ys) ++ drop (at + length xs + length ys) (written old at xs)) (written_take old at xs h) ∙
-    (ap (λ (b : List ℤ). ((take at old ++ xs) ++ ys) ++ b)
-    (sym (drop-drop (length ys) (at + length xs) (written old at xs)) ∙ (ap (drop (length ys)) (written_drop old at xs h) ∙ drop-drop (length ys) (at + length xs) old)) ∙
-    (ap (λ (a : List ℤ). a ++ drop (at + length xs + length ys) old) (append_assoc (take at old) xs ys) ∙ ap (λ (k : ℕ). (take at old ++ (xs ++ ys)) ++ drop k old) n))
-
-pub put_then : (old new newer : List ℤ) (at r s : ℕ) (xs ys : List ℤ) → at + length xs ≤ length old → PutContract old at xs new r → PutContract new r ys newer s → PutContract old at (xs ++ ys) newer s
-put_then old new newer at r s xs ys h p q =
-    let a = p.next in
-    let b = q.next in
-    let c = length-append xs ys in
-    record {
-      leaves = q.leaves ∙ (ap (λ (w : List ℤ). written w r ys) p.leaves ∙ (ap (λ (m : ℕ). written (written old at xs) m ys) p.next ∙ two_written old at xs ys h));
-      next = omega arith;
-    }
-
--- the slice's length keeps
-pub put_length : (old new : List ℤ) (at r : ℕ) (xs : List ℤ) → at + length xs ≤ length old → PutContract old at xs new r → length new ≡ length old
-put_length old new at r xs h p = ap length p.leaves ∙ written_length old at xs h
 
 -- ---- an update's value, from its arguments' kinds
 abbrev updated : Term → Term → Term → Term

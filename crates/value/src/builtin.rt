@@ -18,7 +18,7 @@ pub struct Root {
     pub datum: i64,
 }
 
-// The nodes that functions give.
+// The nodes that functions give, by the names of their terms: no conversions, so that the table of functions reads as the paper's.
 impl Root {
     #[tactic(auto, unfolding(crate::specs::Builtin::root_of))]
     pub fn error() -> Root
@@ -36,7 +36,7 @@ impl Root {
     {
         Root {
             tag: TRUTH,
-            datum: holds as i64,
+            datum: i64::from(holds),
         }
     }
 

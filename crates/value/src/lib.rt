@@ -52,7 +52,7 @@ pub struct Evaluated {
     pub next: usize,
 }
 
-// Whether a side condition holds, and the place behind it.
+// Whether a side condition holds, and the place behind it. No Option: `next` is promised of a condition that fails, too.
 #[derive(Clone, Copy)]
 pub struct Tested {
     pub holds: bool,
@@ -122,14 +122,14 @@ impl<'a> Scope<'a> {
         }
     }
 
-    // A value's words are written from a place on; the place behind them.
-    pub fn put(&self, out: &mut [i64], at: usize, v: Value) -> usize
-        requires { IsWithin self.now v × (at + size_of v ≤ length out.old) }
-        ensures { PutContract out.old at (words_of self.now v) out.new result }
+    // A value's words are written from the start of a slice; how many.
+    pub fn put(&self, out: &mut [i64], v: Value) -> usize
+        requires { IsWithin self.now v × (size_of v ≤ length out.old) }
+        ensures { PutContract out.old (words_of self.now v) out.new result }
     {
         match v {
-            Value::Computed(root) => put_root(out, at, root),
-            _ => put_words(out, at, self.part(v)),
+            Value::Computed(root) => put_root(out, root),
+            _ => put_words(out, self.part(v)),
         }
     }
 }

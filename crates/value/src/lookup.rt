@@ -38,11 +38,9 @@ pub fn find(s: &[i64], at: usize, key: i64) -> Option<Span>
     if s[at] != DICTIONARY {
         return None;
     }
-    match search(s, at + 2, s[at + 1] as usize, key) {
-        Ok(entry) => Some(Span {
-            from: entry.from + 2,
-            to: entry.to,
-        }),
-        Err(_) => None,
-    }
+    let entry = search(s, at + 2, s[at + 1] as usize, key).ok()?;
+    Some(Span {
+        from: entry.from + 2,
+        to: entry.to,
+    })
 }

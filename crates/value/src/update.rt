@@ -36,14 +36,14 @@ impl<'a> Scope<'a> {
             Ok(entry) => (entry, n),
             Err(at) => (Span { from: at, to: at }, n + 1),
         };
-        if count <= MAX_ENTRIES as usize {
-            return Some(Plan {
-                replaced,
-                count,
-                key: key.datum,
-            });
+        if count > MAX_ENTRIES as usize {
+            return None;
         }
-        None
+        Some(Plan {
+            replaced,
+            count,
+            key: key.datum,
+        })
     }
 
     // The words of a value behind its first node: of a dictionary, its entries.
@@ -69,38 +69,31 @@ impl<'a> Scope<'a> {
         4 + plan.replaced.from + v.size() + behind
     }
 
-    // An update's words are written from a place on; the place behind them.
-    pub fn put_plan(
-        &self,
-        out: &mut [i64],
-        at: usize,
-        d: Value,
-        plan: Option<Plan>,
-        v: Value,
-    ) -> usize
-        requires { IsValueHere self.now d × IsWithin self.now v × PlanFitsHere self.now d plan × (at + length (plan_words (words_of self.now d) plan (words_of self.now v)) ≤ length out.old) }
-        ensures { PutContract out.old at (plan_words (words_of self.now d) plan (words_of self.now v)) out.new result }
+    // An update's words are written from the start of a slice; how many.
+    pub fn put_plan(&self, out: &mut [i64], d: Value, plan: Option<Plan>, v: Value) -> usize
+        requires { IsValueHere self.now d × IsWithin self.now v × PlanFitsHere self.now d plan × (length (plan_words (words_of self.now d) plan (words_of self.now v)) ≤ length out.old) }
+        ensures { PutContract out.old (plan_words (words_of self.now d) plan (words_of self.now v)) out.new result }
     {
         let Some(plan) = plan else {
-            return put_root(out, at, Root::error());
+            return put_root(out, Root::error());
         };
         let words = self.entry_words(d);
-        let a = put_front(out, at, &words[..plan.replaced.from], plan.count, plan.key);
-        let e = self.put(out, a, v);
-        put_words(out, e, &words[plan.replaced.to..])
+        let a = put_front(out, &words[..plan.replaced.from], plan.count, plan.key);
+        let e = a + self.put(&mut out[a..], v);
+        e + put_words(&mut out[e..], &words[plan.replaced.to..])
     }
 }
 
-// A dictionary's root, the words in front of an entry, and the entry's key; the place behind them.
-fn put_front(out: &mut [i64], at: usize, words: &[i64], count: usize, key: i64) -> usize
-    requires { (count ≤ 65) × (at + 4 + length words.now ≤ length out.old) }
-    ensures { PutContract out.old at ((pos 5 ∷ pos count ∷ words.now) ++ (pos 2 ∷ key ∷ [])) out.new result }
+// A dictionary's root, the words in front of an entry, and the entry's key; how many.
+fn put_front(out: &mut [i64], words: &[i64], count: usize, key: i64) -> usize
+    requires { (count ≤ 65) × (4 + length words.now ≤ length out.old) }
+    ensures { PutContract out.old ((pos 5 ∷ pos count ∷ words.now) ++ (pos 2 ∷ key ∷ [])) out.new result }
 {
     let head = Root {
         tag: DICTIONARY,
         datum: count as i64,
     };
-    let a = put_root(out, at, head);
-    let b = put_words(out, a, words);
-    put_root(out, b, Root::whole(key))
+    let a = put_root(out, head);
+    let b = a + put_words(&mut out[a..], words);
+    b + put_root(&mut out[b..], Root::whole(key))
 }

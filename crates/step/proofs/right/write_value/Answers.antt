@@ -18,7 +18,7 @@ short_call-root-requires c =
 pub put-requires : goal.put-requires
 put-requires c =
     let t : FitsSigned w64 (get_or c.args.scope.now.table.now c.args.at (pos 0)) = search rules in
-    item_room _ _ _ _ _ _ c.requires.0.before _ (evaluated_is _ _ _ _ _ _ c.requires.0.before (tag_four t c.if-tag-eq-CALL.true) c.requires.1 _ (c.short_call-root.ensures.over _)) _ _ c.requires.0
+    item_room _ _ _ _ _ _ c.requires.0.before _ (evaluated_is _ _ _ _ _ _ c.requires.0.before (tag_four t c.if-tag-eq-CALL.true) c.requires.1 _ (c.short_call-root.ensures.over _)) _ c.requires.0
 
 pub returns-then-is_short_call : goal.returns-then-is_short_call
 returns-then-is_short_call c =
@@ -32,7 +32,7 @@ pub put-requires-then-tag-ne-VARIABLE : goal.put-requires-then-tag-ne-VARIABLE
 put-requires-then-tag-ne-VARIABLE c =
     let t : FitsSigned w64 (get_or c.args.scope.now.table.now c.args.at (pos 0)) = search rules in
     let d : FitsSigned w64 (get_or c.args.scope.now.table.now (c.args.at + 1) (pos 0)) = search rules in
-    item_room _ _ _ _ _ _ c.requires.0.before _ (node_words _ _ _ _ _ _ c.requires.0.before (λ p. c.if-tag-ne-VARIABLE.true (ap (of_z w64) p)) (λ p. c.if-tag-eq-CALL.false (ap (of_z w64) p)) _ _ (to_z-of_z w64 _ t) (to_z-of_z w64 _ d)) _ _ c.requires.0
+    item_room _ _ _ _ _ _ c.requires.0.before _ (node_words _ _ _ _ _ _ c.requires.0.before (λ p. c.if-tag-ne-VARIABLE.true (ap (of_z w64) p)) (λ p. c.if-tag-eq-CALL.false (ap (of_z w64) p)) _ _ (to_z-of_z w64 _ t) (to_z-of_z w64 _ d)) _ c.requires.0
 
 pub returns-then-tag-ne-VARIABLE : goal.returns-then-tag-ne-VARIABLE
 returns-then-tag-ne-VARIABLE c =
@@ -41,7 +41,7 @@ returns-then-tag-ne-VARIABLE c =
     record { words = _; item = item_words _ _ _ _ _ _ c.requires.0.before _ (node_words _ _ _ _ _ _ c.requires.0.before (λ p. c.if-tag-ne-VARIABLE.true (ap (of_z w64) p)) (λ p. c.if-tag-eq-CALL.false (ap (of_z w64) p)) _ _ (to_z-of_z w64 _ t) (to_z-of_z w64 _ d)); puts = c.put-then-tag-ne-VARIABLE.ensures }
 
 pub put-requires-2 : goal.put-requires-2
-put-requires-2 c = item_room _ _ _ _ _ _ c.requires.0.before _ c.item-x.ensures _ _ c.requires.0
+put-requires-2 c = item_room _ _ _ _ _ _ c.requires.0.before _ c.item-x.ensures _ c.requires.0
 
 pub returns : goal.returns
 returns c = record { words = _; item = item_words _ _ _ _ _ _ c.requires.0.before _ c.item-x.ensures; puts = c.put-2.ensures }

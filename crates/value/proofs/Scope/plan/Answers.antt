@@ -31,10 +31,10 @@ returns-then-count c =
     let y : SFits w64 c.root-key.result.datum = search rules in
     let a = heads c.root-key.ensures c.root-head.ensures c.requires.0 c.entry_words.ensures (search rules) (search rules) c.if-key-ne-WHOLE.false c.if-head-ne-DICTIONARY.false in
     elim c.match-search.branch [
-      | in-Ok w ↦ rw (to_z-of_z y, w.count-is, a.back) (plan_keeps a _ _ a.n (found_slot (rw (to_z-of_z y, a.back, w.in-Ok.is) at c.search.ensures)) c.requires.0 a.few)
+      | in-Ok w ↦ let few = a.few in let l = rw (w.count-is, a.back) at c.if-count.true in absurd (omega arith)
       | in-Err w ↦
           let l = rw (w.count-is, a.back) at c.if-count.true in
-          rw (to_z-of_z y, w.count-is, a.back) (plan_keeps a _ _ (a.n + 1) (new_slot (rw (to_z-of_z y, a.back, w.in-Err.is) at c.search.ensures)) c.requires.0 (omega arith))
+          plan_full a _ _ (a.n + 1) (new_slot (rw (to_z-of_z y, a.back, w.in-Err.is) at c.search.ensures)) (omega arith)
     ]
 
 pub returns : goal.returns
@@ -42,8 +42,8 @@ returns c =
     let y : SFits w64 c.root-key.result.datum = search rules in
     let a = heads c.root-key.ensures c.root-head.ensures c.requires.0 c.entry_words.ensures (search rules) (search rules) c.if-key-ne-WHOLE.false c.if-head-ne-DICTIONARY.false in
     elim c.match-search.branch [
-      | in-Ok w ↦ let few = a.few in let l = rw (w.count-is, a.back) at c.if-count.false in absurd (omega arith)
+      | in-Ok w ↦ rw (to_z-of_z y, w.count-is, a.back) (plan_keeps a _ _ a.n (found_slot (rw (to_z-of_z y, a.back, w.in-Ok.is) at c.search.ensures)) c.requires.0 a.few)
       | in-Err w ↦
           let l = rw (w.count-is, a.back) at c.if-count.false in
-          plan_full a _ _ (a.n + 1) (new_slot (rw (to_z-of_z y, a.back, w.in-Err.is) at c.search.ensures)) (omega arith)
+          rw (to_z-of_z y, w.count-is, a.back) (plan_keeps a _ _ (a.n + 1) (new_slot (rw (to_z-of_z y, a.back, w.in-Err.is) at c.search.ensures)) c.requires.0 (omega arith))
     ]

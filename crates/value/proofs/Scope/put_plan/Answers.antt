@@ -18,14 +18,14 @@ returns-in_default c = rw c.in_default.is (rw c.error.ensures at c.put_root.ensu
 pub put_front-a-requires : goal.put_front-a-requires
 put_front-a-requires c = front_fits (writes c.in-Some.is c.requires.2 c.entry_words-words.ensures c.requires.3)
 
-pub put-e-requires : goal.put-e-requires
-put-e-requires c =
+pub put-requires : goal.put-requires
+put-requires c =
     let r = value_room (writes c.in-Some.is c.requires.2 c.entry_words-words.ensures c.requires.3) (search rules) c.put_front-a.ensures in
     let n = size_is _ _ c.args.v c.requires.1 in
     (c.requires.1, omega arith)
 
 pub put_words-requires : goal.put_words-requires
-put_words-requires c = last_room (writes c.in-Some.is c.requires.2 c.entry_words-words.ensures c.requires.3) (search rules) c.put_front-a.ensures c.put-e.ensures
+put_words-requires c = last_room (writes c.in-Some.is c.requires.2 c.entry_words-words.ensures c.requires.3) (search rules) c.put_front-a.ensures c.put.ensures
 
 pub returns : goal.returns
-returns c = put_kept (writes c.in-Some.is c.requires.2 c.entry_words-words.ensures c.requires.3) (search rules) c.put_front-a.ensures c.put-e.ensures c.put_words.ensures
+returns c = put_kept (writes c.in-Some.is c.requires.2 c.entry_words-words.ensures c.requires.3) (search rules) c.put_front-a.ensures c.put.ensures c.put_words.ensures
