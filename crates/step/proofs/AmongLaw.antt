@@ -1,6 +1,6 @@
 -- Rules tried one after the other: what each turn of `apply_among` says, and the two steps from it.
 use Rattle.minuska.specs.declared.Row.{Row}
-use Rattle.std.specs.Prelude.{None, Result, Ok, Err}
+use Rattle.std.specs.Prelude.{Option as StdOption, None, Result, Ok, Err}
 use Rattle.minuska.specs.declared.Refusal.{Refusal}
 use Rattle.minuska.specs.declared.Stepped.{Stepped}
 use mathlib.Core.Path.{◌≡◌, refl, sym, ◌∙◌, ap, ap₂, subst}
@@ -37,7 +37,7 @@ use Rattle.table.proofs.IndexLaw.{positions_of}
 use Rattle.step.specs.declared.rule.Obstacle.{Obstacle}
 use Rattle.step.specs.Apply.{Candidate, Matched, SomeMatched, Instantiated}
 use Rattle.step.specs.Verdict.{VerdictIs, JudgeIs}
-use Rattle.step.specs.Among.{positions, KeyFor, step_of, verdict_told, AmongIs}
+use Rattle.step.specs.Among.{positions, KeyFor, verdict_told, AmongIs}
 use Rattle.step.proofs.ApplyLaw.{outcome_by, step_by, instantiated_answer, instantiated_out_lem, unmatched, verdict_applies}
 
 -- ---- the order from a position on
@@ -159,7 +159,7 @@ module _ (ws cs : List ℤ) (first from to : ℕ) where
           let m = s.low in
           record { low = omega arith; only = λ e. absurd (let z : ⊥ = omega arith in z); same = λ t g p q. behind t g p q ∙ ap (λ (l : List ℕ). first_of t l g) (positions_next t r to p b below o ∙ ap (λ (j : ℕ). n ∷ positions j to t) (sym e)) }
 
-      pub none_applies : (out : List ℤ) (o : Obstacle) → to ≤ r → (from ≡ to → VerdictIs ws cs first (Err o)) → AmongIs ws cs first from to out out (Ok (Err o))
+      pub none_applies : (out : List ℤ) (o : Obstacle) → to ≤ r → (from ≡ to → VerdictIs ws cs first (Err o)) → AmongIs ws cs first from to out out o (Ok None)
       unfolding step_answer step_out
       none_applies out o past a =
           record { alone = a; answer = λ t g p q. ap step_answer (sym (nothing t g p q)); leaves = λ t g p q. ap (λ (z : Outcome StepResult). step_out z out) (sym (nothing t g p q)) }
@@ -180,7 +180,7 @@ module _ (ws cs : List ℤ) (first from to : ℕ) where
           ap (λ (x : Option (ℕ × Term)). gives (answered t limit x)) (k.same t g p q ∙ ap (λ (x : Option Term). or_next rule x (first_of t (positions i to t) g)) s) ∙
           ap (λ (x : Option Rule). gives (sized limit rule (action_in x) z.term)) c.numbered
 
-      pub one_applies : {r' : Result (Result Stepped Obstacle) Refusal} → step_of r' ≡ step_by r → verdict_told r' ≡ Ok tt → AmongIs ws cs first from to out out' r'
+      pub one_applies : {last : Obstacle} {r' : Result (StdOption Stepped) Refusal} → r' ≡ step_by r → verdict_told r' last ≡ Ok tt → AmongIs ws cs first from to out out' last r'
       one_applies same told =
           record {
             alone = alone_by k j (told ∙ sym e);
@@ -194,13 +194,13 @@ module _ (ws cs : List ℤ) (first from to : ℕ) where
 
 -- ---- the step by one rule: that rule alone
 module _ (ws cs : List ℤ) (index : List Row) (out : List ℤ) (x : Indexed ws index) (y : Accepted cs) where
-  pub by_that_rule : (n : ℕ) (out' : List ℤ) (r : Result (Result Stepped Obstacle) Refusal) → AmongIs ws cs n 0 0 out out' r → StepByRuleContract ws cs n out out' (step_of r)
-  by_that_rule n out' r k =
+  pub by_that_rule : (n : ℕ) (out' : List ℤ) (last : Obstacle) (r : Result (StdOption Stepped) Refusal) → AmongIs ws cs n 0 0 out out' last r → StepByRuleContract ws cs n out out' r
+  by_that_rule n out' last r k =
       let t = x.table in
       let g = y.term in
       let o : rule_outcome ws cs n (length out) ≡ gives (answered t (out_limit (length out)) (first_of t (n ∷ positions 0 0 t) g)) =
       outcome_by ws cs n out t g x.is y.is ∙ ap (λ (z : Option (ℕ × Term)). gives (answered t (out_limit (length out)) z)) (alone (successor_by t n g)) in
-      step_by_rule_contract ws cs n out out' (step_of r) (k.answer t g x.is y.is ∙ ap step_answer (sym o)) (k.leaves t g x.is y.is ∙ ap (λ (z : Outcome StepResult). step_out z out) (sym o))
+      step_by_rule_contract ws cs n out out' r (k.answer t g x.is y.is ∙ ap step_answer (sym o)) (k.leaves t g x.is y.is ∙ ap (λ (z : Outcome StepResult). step_out z out) (sym o))
     where
       alone : (s : Option Term) → with_number n s ≡ or_next n s none
       alone none = refl
@@ -239,12 +239,12 @@ module _ (ws cs : List ℤ) (index : List Row) (out : List ℤ) (x : Indexed ws 
         outcome_first root first key s ∙ ap (λ (l : List ℕ). gives (answered t (out_limit (length out)) (first_of t l y.term))) (positions_none t first count past) in
         step_contract ws cs out out (Ok None) (ap step_answer (sym o)) (ap (λ (z : Outcome StepResult). step_out z out) (sym o))
 
-  pub the_earliest : {root n root' from to : ℕ} → RootKeyIs cs root → FirstIs ws root n root' from to → {out' : List ℤ} {r : Result (Result Stepped Obstacle) Refusal} → AmongIs ws cs n from to out out' r → StepContract ws cs out out' (step_of r)
-  the_earliest {root} {n} {root'} {from} {to} key f {out'} {r} k =
+  pub the_earliest : {root n root' from to : ℕ} → RootKeyIs cs root → FirstIs ws root n root' from to → {out' : List ℤ} {last : Obstacle} {r : Result (StdOption Stepped) Refusal} → AmongIs ws cs n from to out out' last r → StepContract ws cs out out' r
+  the_earliest {root} {n} {root'} {from} {to} key f {out'} {last} {r} k =
       let t = x.table in
       let c = f.candidate in
       let w : step_outcome ws cs (length out) ≡ gives (answered t (out_limit (length out)) (first_of t (n ∷ positions from to t) y.term)) =
       outcome_first to f.count root c.position key c.sought ∙
       ap (λ (l : List ℕ). gives (answered t (out_limit (length out)) (first_of t l y.term)))
       (positions_next t c.position to x.is (every_position to f.count) c.below c.ordered ∙ ap (λ (i : ℕ). n ∷ positions i to t) (sym c.behind)) in
-      step_contract ws cs out out' (step_of r) (k.answer t y.term x.is y.is ∙ ap step_answer (sym w)) (k.leaves t y.term x.is y.is ∙ ap (λ (z : Outcome StepResult). step_out z out) (sym w))
+      step_contract ws cs out out' r (k.answer t y.term x.is y.is ∙ ap step_answer (sym w)) (k.leaves t y.term x.is y.is ∙ ap (λ (z : Outcome StepResult). step_out z out) (sym w))

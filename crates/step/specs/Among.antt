@@ -1,6 +1,5 @@
 -- Rules tried one after the other, over checked words.
-use Rattle.std.specs.Prelude.{◌≡◌, List, ◌∷◌, ℕ, ◌-◌, ◌<◌, ℤ, length, take, drop, Option, Result, Ok, Err}
-use Rattle.std.specs.Result.{result_ok}
+use Rattle.std.specs.Prelude.{◌≡◌, List, ◌∷◌, ℕ, ◌-◌, ◌<◌, ℤ, length, take, drop, Option, Some, None, Result, Ok, Err}
 use Rattle.minuska.specs.declared.Refusal.{Refusal}
 use Rattle.minuska.specs.declared.Stepped.{Stepped}
 use Rattle.minuska.specs.Term.{Term}
@@ -20,18 +19,14 @@ positions from to t = take (to - from) (drop from (order t))
 pub record KeyFor (cs : List ℤ) (to root : ℕ) : Type 0 where
   pub is : 0 < to → RootKeyIs cs root
 
--- what is answered where rules are tried: as a step's answer; and as the verdict on the last
-abbrev pub step_of : Result (Result Stepped Obstacle) Refusal → Result (Option Stepped) Refusal
-step_of (Ok tried) = Ok (result_ok tried)
-step_of (Err refusal) = Err refusal
-
-abbrev pub verdict_told : Result (Result Stepped Obstacle) Refusal → Result (Unit {0}) Obstacle
-verdict_told (Ok (Ok stepped)) = Ok tt
-verdict_told (Ok (Err obstacle)) = Err obstacle
-verdict_told (Err refusal) = Ok tt
+-- what is answered of a rule alone, and what is left of why it does not apply, as its verdict
+abbrev pub verdict_told : Result (Option Stepped) Refusal → Obstacle → Result (Unit {0}) Obstacle
+verdict_told (Ok (Some stepped)) last = Ok tt
+verdict_told (Ok None) last = Err last
+verdict_told (Err refusal) last = Ok tt
 
 -- the first that applies of a rule and of those at some positions, as the step answers it; of a rule alone, its verdict
-pub record AmongIs (ws cs : List ℤ) (first from to : ℕ) (out out' : List ℤ) (r : Result (Result Stepped Obstacle) Refusal) : Type 0 where
-  pub answer : (t : Table) (g : Term) → IsTable ws t → IsConfiguration cs g → step_of r ≡ step_answer (gives (answered t (out_limit (length out)) (first_of t (first ∷ positions from to t) g)))
+pub record AmongIs (ws cs : List ℤ) (first from to : ℕ) (out out' : List ℤ) (last : Obstacle) (r : Result (Option Stepped) Refusal) : Type 0 where
+  pub answer : (t : Table) (g : Term) → IsTable ws t → IsConfiguration cs g → r ≡ step_answer (gives (answered t (out_limit (length out)) (first_of t (first ∷ positions from to t) g)))
   pub leaves : (t : Table) (g : Term) → IsTable ws t → IsConfiguration cs g → out' ≡ step_out (gives (answered t (out_limit (length out)) (first_of t (first ∷ positions from to t) g))) out
-  pub alone : from ≡ to → VerdictIs ws cs first (verdict_told r)
+  pub alone : from ≡ to → VerdictIs ws cs first (verdict_told r last)
