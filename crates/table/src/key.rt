@@ -7,7 +7,7 @@ fn remainder(word: i64, by: usize) -> usize
     requires { 0 < by }
     ensures { result ≡ remainder word by }
 {
-    usize::try_from(word).unwrap_or(0) % by
+    word.max(0) as usize % by
 }
 
 // The key of a node, by its two words; 0 of a variable.
