@@ -155,7 +155,7 @@ pub fn minus(a: Root, b: Root) -> Root
 }
 
 // What a function of two whole numbers gives: its number, or error where there is none, and of other arguments. It is handed the function, not the number, and so is
-// compiled as if it were written out in both: with the number, either answer is computed and one chosen; with `map_or` for the match, a sum takes one instruction more.
+// compiled as if it were written out in both: with the number, either answer is computed and one chosen; with `map_or` at its end, a sum takes one instruction more.
 fn of_wholes<F: Fn(i64, i64) -> Option<i64>>(a: Root, b: Root, f: F) -> Root
     requires { F.IsAlwaysCallable f }
     ensures { (t : Term) → ((n : Option ℤ) → F.post f a.datum b.datum n → number_term n ≡ t) → result ≡ root_of (cond (same_whole a.tag WHOLE && same_whole b.tag WHOLE) t wrong_kind).label }
@@ -163,10 +163,10 @@ fn of_wholes<F: Fn(i64, i64) -> Option<i64>>(a: Root, b: Root, f: F) -> Root
     if !both(WHOLE, a, b) {
         return Root::error();
     }
-    match f(a.datum, b.datum) {
-        Some(number) => Root::whole(number),
-        None => Root::error(),
-    }
+    let Some(number) = f(a.datum, b.datum) else {
+        return Root::error();
+    };
+    Root::whole(number)
 }
 
 // term.same_symbol.
