@@ -99,13 +99,3 @@ module _ (ws cs : List ℤ) (n : ℕ) (rule : Rule) (g : Term) (a : Candidate ws
       pick : (o : Option Reason) → verdict_for o ≡ Ok u → o ≡ none
       pick none e = refl
       pick (some o) e = cc
-
--- ---- numbers that name a rule, and those that do not
-pub past_none : (t : Table) (n : ℕ) → length t ≤ n → get_elem? t n ≡ none
-past_none [] n h = refl
-past_none (r ∷ t) zero h = absurd (let f : ⊥ = omega arith in f)
-past_none (r ∷ t) (suc n) h = past_none t n (omega arith)
-
-module _ (ws cs : List ℤ) (n : ℕ) (t : Table) (g : Term) (p : IsTable ws t) (q : IsConfiguration cs g) where
-  pub past_successor : length t ≤ n → successor_by t n g ≡ none
-  past_successor h = ap (λ (z : Option Rule). z >>= λ r. successor r g) (past_none t n h)

@@ -27,7 +27,7 @@ use Rattle.table.specs.Number.{answered}
 use Rattle.table.specs.Walk.{part_end, part_seen}
 use Rattle.table.specs.Size.{Counts, SidePartContract}
 use Rattle.table.specs.declared.index.RightSizes.{RightSizes}
-use Rattle.table.specs.declared.walk.Sized.{Sized}
+use Rattle.table.specs.declared.walk.Measured.{Measured}
 use Rattle.table.proofs.KeepLaw.{part_keeps}
 use Rattle.table.specs.Rule.{conditions_end, RuleAt}
 use Rattle.minuska.specs.Bridge.Place.{left_from}
@@ -201,7 +201,7 @@ module _ (ws : List ℤ) (at : ℕ) (room : left_from at ≤ length ws) (action 
   pub left_missed : {seen : List Bool} → SidePartContract ws (left_from at) Left unseen seen None → read_rule (drop at ws) ≡ none
   left_missed l = rule_left ws at action count head (answered_none (part_end ws (left_from at) Left unseen) l.part.answer)
 
-  module _ {left : Sized} {seen : List Bool} (l : SidePartContract ws (left_from at) Left unseen seen (Some left)) where
+  module _ {left : Measured} {seen : List Bool} (l : SidePartContract ws (left_from at) Left unseen seen (Some left)) where
     left_at : part_end ws (left_from at) Left unseen ≡ some left.end
     left_at = answered_some left.end (part_end ws (left_from at) Left unseen) l.part.answer
 
@@ -211,7 +211,7 @@ module _ (ws : List ℤ) (at : ℕ) (room : left_from at ≤ length ws) (action 
     pub right_missed : {seen' : List Bool} → SidePartContract ws left.end Right seen seen' None → read_rule (drop at ws) ≡ none
     right_missed r = rule_right ws at action count head left.end left_at (answered_none (part_end ws left.end Right (part_seen ws (left_from at) Left unseen)) (by_flags None r.part.answer))
 
-    module _ {right : Sized} {seen' : List Bool} (r : SidePartContract ws left.end Right seen seen' (Some right)) where
+    module _ {right : Measured} {seen' : List Bool} (r : SidePartContract ws left.end Right seen seen' (Some right)) where
       right_at : part_end ws left.end Right (part_seen ws (left_from at) Left unseen) ≡ some right.end
       right_at = answered_some right.end (part_end ws left.end Right (part_seen ws (left_from at) Left unseen)) (by_flags (Some right.end) r.part.answer)
 

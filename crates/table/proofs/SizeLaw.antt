@@ -23,7 +23,7 @@ use Rattle.minuska.proofs.Bridge.ShapeLaw.{ok_shapely}
 use Rattle.minuska.proofs.Bridge.SizeLaw.{variable_sizes, call_sizes, plain_sizes, literal_sizes}
 use Rattle.std.specs.Prelude.{Some, None}
 use Rattle.table.specs.declared.node.Node.TheVariants as N
-use Rattle.table.specs.declared.walk.Sized.{Sized}
+use Rattle.table.specs.declared.walk.Measured.{Measured}
 use Rattle.table.specs.Level.{Level, Expression, Ground}
 use Rattle.table.specs.Node.{Kind, a_variable, a_call, plain, literal, kind, node_as, node_in, node_of, NodeAt}
 use Rattle.table.specs.Walk.{walk, PartContract}
@@ -198,5 +198,5 @@ module _ {ws : List ℤ} {at : ℕ} {l : Level} {seen seen' : List Bool} where
   pub no_side : PartContract ws at l seen seen' None → SidePartContract ws at l seen seen' None
   no_side p = record { part = p; sizes = λ s q. absurd (never (cc)) }
 
-  pub a_side : (s : Sized) → PartContract ws at l seen seen' (Some s.end) → Counts ws at 1 s.end 0 s.sizes.fixed s.sizes.leaves → SidePartContract ws at l seen seen' (Some s)
-  a_side s p c = record { part = p; sizes = λ s' q. let e : s ≡ s' = cc in subst (λ (x : Sized). Counts ws at 1 x.end 0 x.sizes.fixed x.sizes.leaves) e c }
+  pub a_side : (s : Measured) → PartContract ws at l seen seen' (Some s.end) → Counts ws at 1 s.end 0 s.sizes.fixed s.sizes.leaves → SidePartContract ws at l seen seen' (Some s)
+  a_side s p c = record { part = p; sizes = λ s' q. let e : s ≡ s' = cc in subst (λ (x : Measured). Counts ws at 1 x.end 0 x.sizes.fixed x.sizes.leaves) e c }

@@ -6,7 +6,7 @@ use Rattle.table.specs.Level.{Level, Expression}
 use Rattle.table.specs.Reach.{Reaches, Met, Kept}
 use Rattle.table.specs.Size.{SidePartContract}
 use Rattle.table.specs.Walk.{part_end, PartContract}
-use Rattle.table.specs.declared.walk.Sized.{Sized}
+use Rattle.table.specs.declared.walk.Measured.{Measured}
 
 -- A walk from one place came to another, and met a dictionary or not.
 pub record Ending (ws : List ℤ) (at e : ℕ) (met : Bool) : Type 0 where
@@ -28,6 +28,6 @@ pub record SideMissed (mixed : Bool) (ws : List ℤ) (at : ℕ) (l : Level) (see
   pub kept : Kept l seen seen'
   pub nowhere : mixed ≡ true → SidePartContract ws at l seen seen' None
 
-abbrev pub SideFound : Bool → List ℤ → ℕ → Level → List Bool → List Bool → Option Sized → Type 0
+abbrev pub SideFound : Bool → List ℤ → ℕ → Level → List Bool → List Bool → Option Measured → Type 0
 SideFound mixed ws at l seen seen' (Some s) = SidePartContract ws at l seen seen' (Some s)
 SideFound mixed ws at l seen seen' None = SideMissed mixed ws at l seen seen'

@@ -7,7 +7,7 @@ use Rattle.minuska.specs.Bridge.Walk.{fixed_nodes, variable_nodes}
 use Rattle.table.specs.Level.{Level}
 use Rattle.table.specs.declared.side.SideTurn.{SideTurn}
 use Rattle.table.specs.declared.side.SideEnd.{SideEnd}
-use Rattle.table.specs.declared.walk.Sized.{Sized}
+use Rattle.table.specs.declared.walk.Measured.{Measured}
 use Rattle.table.specs.Walk.{PartContract}
 use Rattle.table.specs.Reach.{Reaches, Missed, TurnOn, Met}
 
@@ -53,10 +53,10 @@ SideIs mixed ws l at seen seen' (Some t) = SideEnds mixed ws l at seen seen' t.e
 SideIs mixed ws l at seen seen' None = Missed mixed ws l at 1 seen seen'
 
 -- What is found at a place where a side should start: the place behind it, and its sizes.
-abbrev pub place_of : Option Sized → Option ℕ
+abbrev pub place_of : Option Measured → Option ℕ
 place_of (Some s) = Some s.end
 place_of None = None
 
-pub record SidePartContract (ws : List ℤ) (at : ℕ) (l : Level) (seen seen' : List Bool) (r : Option Sized) : Type 0 where
+pub record SidePartContract (ws : List ℤ) (at : ℕ) (l : Level) (seen seen' : List Bool) (r : Option Measured) : Type 0 where
   pub part : PartContract ws at l seen seen' (place_of r)
-  pub sizes : (s : Sized) → r ≡ Some s → Counts ws at 1 s.end 0 s.sizes.fixed s.sizes.leaves
+  pub sizes : (s : Measured) → r ≡ Some s → Counts ws at 1 s.end 0 s.sizes.fixed s.sizes.leaves

@@ -67,16 +67,12 @@ fn expression_turn<const MIXED: bool>(
             more: children,
             met: false,
         }),
-        Node::Variable { number } => {
-            if !seen[number] {
-                return None;
-            }
-            Some(Turn {
-                end: i + 2,
-                more: 0,
-                met: false,
-            })
-        }
+        Node::Variable { number } if seen[number] => Some(Turn {
+            end: i + 2,
+            more: 0,
+            met: false,
+        }),
+        Node::Variable { .. } => None,
     }
 }
 

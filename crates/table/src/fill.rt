@@ -18,9 +18,9 @@ pub fn fill(table: &[i64], rows: &mut [Row; MAX_RULES]) -> Result<(), Refusal>
     }
     let count = number_below(MAX_RULES + 1, table[0]).ok_or(Refusal::BadTable)?;
     let mut at = FIRST_RULE;
-    for rule in 0..count {
+    for row in &mut rows[..count] {
         let parts = rule_parts(table, at).ok_or(Refusal::BadTable)?;
-        rows[rule] = row_from(table, at, parts);
+        *row = row_from(table, at, parts);
         at = parts.end;
     }
     if at < n {

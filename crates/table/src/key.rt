@@ -10,7 +10,7 @@ fn remainder(word: i64, by: usize) -> usize
     word.max(0) as usize % by
 }
 
-// The key of a node, by its two words; 0 of a variable.
+// The key of a node, by its two words; 0 of a variable, as `key_of` and the index have it: a row holds a number, and a rule whose key is 0 is never passed over.
 #[tactic(auto, using(crate::proofs::KeyLaw::key_variable, crate::proofs::KeyLaw::key_other, crate::proofs::KeyLaw::remainder_small))]
 pub fn key(t: i64, d: i64) -> u16
     ensures { result ≡ key_of t d }

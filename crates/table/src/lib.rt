@@ -27,7 +27,7 @@ pub fn check_table(table: &[i64]) -> Result<(), Refusal>
     index_table(table, &mut index)
 }
 
-// The same, and the index.
+// The same, and the index. `fill` is lent the rows alone: of an array that is a field behind a `&mut` no length is told, and its loop's proof starts from it.
 pub fn index_table(table: &[i64], index: &mut Index) -> Result<(), Refusal>
     ensures { IndexTableContract table.now index.old.rows index.new.rows result }
 {

@@ -51,6 +51,7 @@ fn call<const MIXED: bool>(d: i64) -> Option<Node>
     Some(Node::Call { children, code })
 }
 
+// Not by `term::ground::ground_children`, which says how many words of a ground node follow for any tag: its contract (`GroundNode`) would have to be brought back to `node_of` of this one.
 #[tactic(auto, using(crate::proofs::NodeLaw::no_dictionary, crate::proofs::NodeLaw::a_dictionary))]
 fn dictionary(d: i64) -> Option<Node>
     ensures { result ≡ node_of (pos dictionary_tag) d }

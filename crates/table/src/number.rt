@@ -7,7 +7,7 @@ ghost use Rattle.table.specs.Number.{answered};
 pub fn number_below(bound: usize, word: i64) -> Option<usize>
     ensures { result ≡ answered (number_below bound word) }
 {
-    // (b) not `usize::try_from`: a check of a table takes 3 % more instructions
+    // Not `usize::try_from`, by which a check of a table takes 3 % more instructions.
     if word < 0 || bound <= word as usize {
         return None;
     }

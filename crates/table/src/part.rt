@@ -6,7 +6,7 @@ ghost use Rattle.table.specs.Number.{answered};
 ghost use Rattle.table.specs.Size.{SidePartContract};
 ghost use Rattle.table.specs.Walk.{part_end};
 
-use crate::walk::{Sized, expression, side};
+use crate::walk::{Measured, expression, side};
 use term::VARIABLES;
 
 // The two walks: one that knows no dictionary, and one that does.
@@ -19,7 +19,7 @@ pub fn side_part<const LEFT: bool>(
     table: &[i64],
     at: usize,
     seen: &mut [bool; VARIABLES],
-) -> Option<Sized>
+) -> Option<Measured>
     requires { LEFT ≡ true → seen.old ≡ unseen }
     ensures { SidePartContract table.now at (side_level LEFT) seen.old seen.new result }
 {

@@ -12,7 +12,7 @@ use term::order::in_order;
 
 // The place behind a side, and its sizes: how many nodes it gives for certain, and how many terms of a match.
 #[derive(Clone, Copy)]
-pub struct Sized {
+pub struct Measured {
     pub end: usize,
     pub sizes: RightSizes,
 }
@@ -51,7 +51,7 @@ pub fn side<const LEFT: bool, const MIXED: bool>(
     table: &[i64],
     at: usize,
     seen: &mut [bool; VARIABLES],
-) -> Option<Sized>
+) -> Option<Measured>
     ensures { SideFound MIXED table.now at (side_level LEFT) seen.old seen.new result }
 {
     if table.len() < at {
@@ -61,7 +61,7 @@ pub fn side<const LEFT: bool, const MIXED: bool>(
     if !is_term(table, at, walked.end, walked.met) {
         return None;
     }
-    Some(Sized {
+    Some(Measured {
         end: walked.end,
         sizes: walked.sizes,
     })

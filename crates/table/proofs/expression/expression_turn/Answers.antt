@@ -47,15 +47,15 @@ returns-in-Call g c =
     let h = rw c.in-Call.is at c.in_ok-children.ensures in
     argument_on h c.args.seen.now c.in-Call.code-test.1
 
-pub returns-then-not-seen-number : goal.returns-then-not-seen-number
-returns-then-not-seen-number g c =
-    let h = rw c.in-Variable.is at c.in_ok-children.ensures in
-    unflagged h c.args.seen.now c.if-not-seen-number.true
-
-pub returns-else-not-seen-number : goal.returns-else-not-seen-number
-returns-else-not-seen-number g c =
-    let h = rw c.in-Variable.is at c.in_ok-children.ensures in
-    flagged_on h c.args.seen.now c.if-not-seen-number.false
-
 pub bounds-seen-number : goal.bounds-seen-number
 bounds-seen-number g c = let h = rw c.in-Variable.is at c.in_ok-children.ensures in number_small h.node
+
+pub returns-in-Variable : goal.returns-in-Variable
+returns-in-Variable g c =
+    let h = rw c.in-Variable.is at c.in_ok-children.ensures in
+    flagged_on h c.args.seen.now c.if-seen-number.true
+
+pub returns-in-Variable-2 : goal.returns-in-Variable-2
+returns-in-Variable-2 g c =
+    let h = rw c.in-Variable.is at c.in_ok-children.ensures in
+    unflagged h c.args.seen.now c.if-seen-number.false

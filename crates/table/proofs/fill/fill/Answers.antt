@@ -1,5 +1,7 @@
 -- The rows that were written, and what was checked so far.
 use Rattle.std.proofs.Common.{◌≡◌, get_or, pos, Some, None, arith, rules}
+use lib.ListN.{drop, take-append-drop}
+use Rattle.std.proofs.lemmas.List.{length-take-le, set-append_left, set-get_or}
 use Rattle.std.proofs.lemmas.Result.{err_from_is_err_and}
 use Rattle.minuska.specs.Computed.Read.{number_below}
 use Rattle.minuska.specs.declared.Refusal.TheVariants.{BadTable}
@@ -24,11 +26,11 @@ returns-in_err-count c =
     let k : None ≡ answered (number_below 257 (get_or c.args.table.now 0 (pos 0))) = search rules in
     rw (p.1, p.2, w) (refused_count _ _ k)
 
-pub loop-rule-init : goal.loop-rule-init
-loop-rule-init c =
+pub loop-row-init : goal.loop-row-init
+loop-row-init c =
     let e = c.in_ok-count.ensures.ok_part in
     let k : Some c.in_ok-count.count ≡ answered (number_below 257 (get_or c.args.table.now 0 (pos 0))) = search rules in
-    starts _ _ _ (omega arith) (omega arith) k c.told-rows
+    rw take-append-drop (starts _ _ _ (omega arith) (omega arith) k c.told-rows)
 
 pub returns-in_err-parts : goal.returns-in_err-parts
 returns-in_err-parts c =
@@ -36,20 +38,21 @@ returns-in_err-parts c =
     let v = rw c.in_err-parts.ensures.ok_part at c.in_err-parts.ensures.value in
     let w : c.in_err-parts.field-0.0 ≡ BadTable = cc in
     let k = rw c.in_err-parts.ensures.ok_part at c.rule_parts.ensures in
-    rw (p.1, p.2, w) (refused_rule _ _ c.loop-rule.invariant c.loop-rule-test.true k)
+    rw (p.1, p.2, w, set-get_or) (refused_rule _ _ c.loop-row.invariant (let e = length-take-le c.in_ok-count.count c.args.rows.now (omega (arith, c.told-rows, c.loop-row.invariant.few)) in omega (arith, e)) k)
 
 pub row_from-requires : goal.row_from-requires
 row_from-requires c =
     let k = rw c.in_ok-parts.ensures.ok_part at c.rule_parts.ensures in
-    row_fits _ _ _ k c.loop-rule.invariant.short
+    row_fits _ _ _ k c.loop-row.invariant.short
 
-pub loop-rule-preserved : goal.loop-rule-preserved
-loop-rule-preserved c =
+pub loop-row-preserved : goal.loop-row-preserved
+loop-row-preserved c =
     let k = rw c.in_ok-parts.ensures.ok_part at c.rule_parts.ensures in
-    rw c.row_from.ensures (goes_on _ _ c.loop-rule.invariant c.loop-rule-test.true _ k)
+    let e = length-take-le c.in_ok-count.count c.args.rows.now (omega (arith, c.told-rows, c.loop-row.invariant.few)) in
+    rw (c.row_from.ensures, ← set-append_left c.loop-row.row-items (drop c.in_ok-count.count c.args.rows.now) c.loop-row.row-index _ (omega (arith, e))) (goes_on _ _ c.loop-row.invariant (let e = length-take-le c.in_ok-count.count c.args.rows.now (omega (arith, c.told-rows, c.loop-row.invariant.few)) in omega (arith, e)) _ k)
 
 pub returns-then-at-n : goal.returns-then-at-n
-returns-then-at-n c = refused_rest _ _ c.loop-rule.invariant c.loop-rule-test.false c.if-at-n.true
+returns-then-at-n c = refused_rest _ _ c.loop-row.invariant (let e = length-take-le c.in_ok-count.count c.args.rows.now (omega (arith, c.told-rows, c.loop-row.invariant.few)) in omega (arith, e)) c.if-at-n.true
 
 pub returns : goal.returns
-returns c = accepted _ _ c.loop-rule.invariant c.loop-rule-test.false c.if-at-n.false
+returns c = accepted _ _ c.loop-row.invariant (let e = length-take-le c.in_ok-count.count c.args.rows.now (omega (arith, c.told-rows, c.loop-row.invariant.few)) in omega (arith, e)) c.if-at-n.false
