@@ -68,7 +68,7 @@ pub fn enter(frame: &mut [i64], configuration: &[i64])
     ensures { frame.new ≡ entered frame.old configuration.now }
 {
     let at = frame.len() - 2;
-    words::copy_each(frame, configuration);
+    words::copy_anew(frame, configuration);
     words::put(frame, at, configuration.len());
     set_position(frame, 0);
 }

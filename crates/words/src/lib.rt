@@ -29,9 +29,22 @@ pub fn copy(to: &mut [i64], at: usize, from: &[i64])
     to[at..at + from.len()].copy_from_slice(from);
 }
 
-// Copies `from` to the start of `to`, word by word, which is compiled to wide moves. For words that are not in the cache: `copy` hands over to the C library, which moves 2 KB and more by an
-// instruction that takes longer there ("1,000 nested bonus rounds and back", whose frames are entered so, 1.14 times).
-pub fn copy_each(to: &mut [i64], from: &[i64])
+// From so many words on the C library's copy moves them by an instruction that is slow into words which are not in the cache.
+const MANY: usize = 256;
+
+// Copies `from` to the start of `to`, whose words are not in the cache: a frame that is entered. `copy` hands over to the C library; many words go one by one, which is compiled to wide moves
+// ("1,000 nested bonus rounds and back" takes 1.16 times as long by `copy` alone).
+pub fn copy_anew(to: &mut [i64], from: &[i64])
+    requires { length from.now ≤ length to.old }
+    ensures { to.new ≡ paste to.old 0 from.now (length from.now) }
+{
+    if from.len() < MANY {
+        return copy(to, 0, from);
+    }
+    copy_each(to, from);
+}
+
+fn copy_each(to: &mut [i64], from: &[i64])
     requires { length from.now ≤ length to.old }
     ensures { to.new ≡ paste to.old 0 from.now (length from.now) }
 {
