@@ -23,7 +23,7 @@ fn signed(size: usize, minus: bool) -> i64 {
 }
 
 // The words so far, at the start of a slice, and how many: there is no heap for a vector. Where the open group starts, how many words it is to have, and the
-// place of the one that rises; the digits and the sign of the next word.
+// place of the one that rises; the digits and the sign of the next word. No group open is a group of no words, so that a `)` by itself repeats nothing, without a case of its own.
 #[derive(Drop)]
 struct WordsSoFar<'a> {
     words: &'a mut [i64],

@@ -51,7 +51,7 @@ fn answer_request(
     Ok(())
 }
 
-// Puts the answer to an input, unless it is refused. None where the input is no request, and then nothing is put.
+// Puts the answer to an input, unless it is refused. There is no heap: each line's numbers have an array, and how many of its places the line has filled. None where the input is no request, and then nothing is put.
 fn answer_input(input: &[u8], text: &mut Text) -> Option<Result<(), Refusal>>
     requires { HasRoom text.old max_output }
     ensures { MatchOption result (Unread input.now text.old text.new) (Answers text.old (answered (request_in input.now)) text.new) }

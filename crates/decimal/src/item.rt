@@ -7,7 +7,7 @@ ghost use Rattle.decimal.specs.Computed.Put.{HasRoom, Puts};
 use crate::print::Text;
 use itoa::{Buffer, Integer};
 
-// A number of a field.
+// A number of a field. No `Display` and no `TryFrom`: a `Formatter` does not say that 20 bytes are enough, and a field says which numbers it takes.
 pub trait Item: Copy {
     // What a whole number is in the field, if anything.
     ghost field: { ℤ → Option Self };

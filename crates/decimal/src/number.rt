@@ -24,6 +24,7 @@ fn digits_from(line: &[u8], at: usize, first: u64) -> Option<(u64, usize)>
     ensures { result ≡ digits_from first at (drop at line.now) }
 {
     let mut value = first;
+    // By places: one behind the line's end is taken too, where `line[at..]` would not stand.
     for i in at..line.len() {
         let Some(digit) = digit_of(line[i]) else {
             return Some((value, i));

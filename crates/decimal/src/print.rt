@@ -1,4 +1,4 @@
-// A text put into an output that was lent. Each routine is lent room enough.
+// A text put into an output that was lent. Each routine is lent room enough; how much is asked of each, since each puts another length, so that no type holds it.
 ghost use Rattle.std.specs.Prelude.{◌≡◌, map, ◌+◌, ◌*◌, ◌≤◌, length};
 ghost use Rattle.decimal.specs.Line.{continued, parted};
 ghost use Rattle.decimal.specs.Computed.Put.{HasRoom, Puts};

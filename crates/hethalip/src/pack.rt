@@ -23,7 +23,7 @@ enum Kind {
     NotStuck = 25,
 }
 
-// What a routine answers where it does not refuse.
+// What a routine answers where it does not refuse. A trait of this crate's and no `From`: the answers and u64 are types of other crates and of the library.
 pub trait Answer {
     ghost within: { Self → Type 0 };
 

@@ -9,7 +9,7 @@ use std::ops::Range;
 // The words of a frame that are not its configuration's.
 pub const EXTRA: usize = 2;
 
-// Where the frame at a depth begins in the work area.
+// Where the frame at a depth begins in the work area. That `room` is bounded is asked in clauses: the search holds it in a type, and these functions are public.
 pub fn base_at(room: usize, depth: usize) -> usize
     requires { (room ≤ max_room) × (base room depth < 2 ^ 64) }
     ensures { result ≡ base room depth }
@@ -35,7 +35,7 @@ pub fn position(frame: &[i64]) -> usize
     words::number_at(frame, frame.len() - 1)
 }
 
-// How many words the frame's configuration has, 0 where it holds none.
+// How many words the frame's configuration has, 0 where it holds none. A count and no Option: such a frame has an empty configuration, which `configuration` gives as any other.
 #[tactic(auto, unfolding(crate::specs::Layout::length_of))]
 pub fn words_in(frame: &[i64]) -> usize
     requires { 2 ≤ length frame.now }

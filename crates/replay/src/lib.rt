@@ -30,7 +30,7 @@ fn set_up(work: &mut [i64], out: &[i64], actions: usize, room: usize, configurat
     frame::enter(&mut work[frame::place(room, 0)], configuration);
 }
 
-// The replay of checked words, where nothing is refused before the search.
+// The replay of checked words, where nothing is refused before the search. `out`, `choices` and `work` are no struct: the entry point is lent them one by one, and the search uses two of them.
 fn replay_accepted(
     search: &Search,
     configuration: Configuration,

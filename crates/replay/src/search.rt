@@ -24,7 +24,7 @@ pub enum Turned {
     Exhausted,
 }
 
-// What stays the same through a search.
+// What stays the same through a search. `out` and `work` are no fields: a rule reads a frame and writes out, and what is made is read in out and written to a frame.
 #[derive(Clone, Copy)]
 pub struct Search<'a> {
     pub table: Table<'a>,
@@ -33,7 +33,8 @@ pub struct Search<'a> {
     pub rules: usize,
     // The words for a configuration in a frame: twice the limit.
     pub room: usize,
-    // Whether a configuration that was searched before is passed over. It changes no answer: without, each rule that applies is followed.
+    // Whether a configuration that was searched before is passed over. It changes no answer: without, each rule that applies is followed. So it is a field and no constant: the program has it true, and
+    // the contract of the search, which does not name it, is proved for both.
     pub remember: bool,
     pub ghost rules_are: { rules ≡ length (order (table_of table.words.now)) },
     pub ghost few: { rules ≤ 256 },

@@ -11,7 +11,7 @@ pub fn hold_all(scope: &Scope, conditions: Span) -> Result<(), usize>
 {
     let mut i = conditions.from;
     let mut held = 0;
-    // A while loop: each condition says where the next begins.
+    // A while loop: each condition says where the next begins. An iterator of our own would hold the same place, and its law say what this loop's invariant says.
     while i < conditions.to {
         let condition = scope.condition(i);
         if !condition.holds {

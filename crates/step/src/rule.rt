@@ -55,7 +55,7 @@ impl<'a> Attempt<'a> {
         }
     }
 
-    // Whether the rule's conditions hold, or the number of the first that fails.
+    // Whether the rule's conditions hold, or the number of the first that fails. That the left has matched is asked in clauses, here and behind: the places are lent to be written anew for each rule.
     fn hold_conditions(self, places: &Places) -> Result<(), usize>
         requires { MatchedHere self places.now }
         ensures { HoldIsHere self.entry places.now result }

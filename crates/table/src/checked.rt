@@ -93,6 +93,7 @@ impl<'a> Table<'a> {
     }
 
     // The first position from one on, up to another, whose rule's left may match a configuration whose root has that key: the left's is a variable, or has it too.
+    // The last position where there is none, as `SeekIs` has it: a public function; `candidate` makes an Option of it.
     pub fn seek(self, root: usize, from: usize, to: usize) -> usize
         requires { Positions self.words.now to × (from ≤ to) }
         ensures { SeekIs self.entry.words.now root from to result }
@@ -152,7 +153,7 @@ impl<'a> Rule<'a> {
         self.row().action
     }
 
-    // Its left.
+    // Its left. This and the next two are three functions: each has a contract of its own, and they share the making of a Span alone.
     #[tactic(auto, using(crate::proofs::IndexLaw::left_is))]
     pub fn left(self) -> Span
         ensures { PartIs left_words self.entry.table.words.now self.entry.number result.from result.to }

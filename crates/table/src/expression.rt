@@ -90,7 +90,7 @@ pub fn expressions_end<const MIXED: bool>(
     let mut i = at;
     let mut k = count;
     let mut met = false;
-    // A while loop: how many terms are to come is read on the way.
+    // A while loop: how many terms are to come is read on the way, and so is where the next begins.
     while 0 < k {
         let turn = expression_turn::<MIXED>(table, i, seen)?;
         i = turn.end;

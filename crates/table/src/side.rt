@@ -143,7 +143,7 @@ pub fn side_end<const LEFT: bool, const MIXED: bool>(
         leaves: 0,
     };
     let mut met = false;
-    // A while loop: how many terms are to come is read on the way.
+    // A while loop: how many terms are to come is read on the way, and so is where the next begins.
     while 0 < k {
         let turn = side_turn::<LEFT, MIXED>(table, i, seen)?;
         i = turn.end;

@@ -46,7 +46,7 @@ pub fn expression<const MIXED: bool>(
     Some(walked.end)
 }
 
-// The place behind the side that starts at a place, and its sizes.
+// The place behind the side that starts at a place, and its sizes. Apart from `expression`: a side has sizes, flags variables, and takes a call with all its arguments at one turn.
 pub fn side<const LEFT: bool, const MIXED: bool>(
     table: &[i64],
     at: usize,

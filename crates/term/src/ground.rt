@@ -115,7 +115,7 @@ pub fn tagged_terms(s: &[i64], at: usize, count: usize) -> Reached
     let n = s.len();
     let mut i = at;
     let mut k = count;
-    // A while loop: how many nodes are to come is read on the way.
+    // A while loop: where it ends is read on the way, and the place that it comes to is the answer; a range by steps would carry both beside it.
     while 0 < k {
         if n - i < 2 {
             return Reached { at: i, left: k };
@@ -153,7 +153,7 @@ fn ground_mixed(s: &[i64], at: usize, count: usize) -> Option<usize>
     let n = s.len();
     let mut i = at;
     let mut k = count;
-    // A while loop: how many nodes are to come is read on the way.
+    // A while loop: where it ends is read on the way, and the place that it comes to is the answer; a range by steps would carry both beside it.
     while 0 < k {
         if n - i < 2 * k {
             return None;

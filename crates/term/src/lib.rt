@@ -51,7 +51,8 @@ pub const SYMBOLS: i64 = 4096;
 // "the entry count, 0 to 64"
 pub const MAX_ENTRIES: i64 = 64;
 
-// A part of a slice of words: from one place up to another.
+// A part of a slice of words: from one place up to another. No `Range`, which is not Copy: values and parts are handed on by copy. And a slice and a place in it, not the rest of the slice: places are
+// counted from its start, in the index and in the answers.
 #[derive(Clone, Copy)]
 pub struct Span {
     pub from: usize,

@@ -31,7 +31,8 @@ impl<'a> Scope<'a> {
         }
     }
 
-    // The value of the first of the arguments that stand from a place on, the rest behind it; where none is wanted, error.
+    // The value of the first of the arguments that stand from a place on, the rest behind it; where none is wanted, error. `wanted` is a flag: three calls stand in a row, and an Option would be asked
+    // for its place behind in each.
     #[cycle(arguments_expression)]
     fn arguments(&self, at: usize, wanted: bool) -> Evaluated
         requires { ArgumentsHere self.now at wanted }

@@ -22,7 +22,8 @@ mod search; // a key among a dictionary's entries
 pub mod short; // calls whose value needs no recursion
 pub mod update; // a dictionary with an entry put in
 
-// Where a value is: a part of the table or of the configuration; or a node that was computed.
+// Where a value is: a part of the table or of the configuration; or a node that was computed. Places and no slices: a value is "a part of whichever slice holds it" (document 02), and clauses name the
+// part.
 #[derive(Clone, Copy)]
 pub enum Value {
     Table(Span),
@@ -45,7 +46,8 @@ impl Value {
     }
 }
 
-// An expression's value, and the place behind the expression.
+// An expression's value, and the place behind the expression. A type beside `Tested` and the size of an item in `step`, which have a place behind them too: one generic type would call a value, a
+// truth and a count by one name.
 #[derive(Clone, Copy)]
 pub struct Evaluated {
     pub value: Value,

@@ -4,6 +4,7 @@ ghost use Rattle.value.specs.Search.{EntriesIn, SearchIs};
 use term::Span;
 
 // The entry with a key, a part of the slice; or the place where such an entry would start. `n` entries stand at `at`. Their keys rise, so that a greater one ends the walk.
+// No `binary_search`: entries have lengths of their own, and are found one behind the other.
 pub fn search(s: &[i64], at: usize, n: usize, key: i64) -> Result<Span, usize>
     requires { EntriesIn s.now at n }
     ensures { SearchIs s.now at n key result }
