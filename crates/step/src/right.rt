@@ -65,8 +65,9 @@ pub struct Parts {
     pub next: usize,
 }
 
-// The items of a right: over what they are worked out, and where they end. That the rest of a right stands from a place on is no ghost field: it is of a match, which
-// is not the only one. That the table is short is one: of a slice behind two references it is not known.
+// The items of a right: over what they are worked out, and where they end. That the rest of a right stands from a place on is asked by each method, and is no ghost
+// field: a ghost field's fact has one proof at most, and this one has a valuation for a witness, of which there are more. That the table is short is one, since the
+// check does not know it of a slice behind two references.
 #[derive(Clone, Copy)]
 struct Items<'a> {
     scope: &'a Scope<'a>,
