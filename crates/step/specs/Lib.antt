@@ -5,3 +5,4 @@ pub mod Verdict
 pub mod Among
 pub mod Reasons
 pub mod Right
+pub mod Items

@@ -131,23 +131,8 @@ module _ (s : Scope) where
   abbrev pub RestHere : ℕ → ℕ → Type 0
   RestHere at end = SomeRest s.table.now s.configuration.now s.places.now.starts s.places.now.ends at end
 
-  abbrev pub ItemIsHere : ℕ → ℕ → Evaluated → Type 0
-  ItemIsHere at end r = ItemIs s.table.now s.configuration.now s.places.now.starts s.places.now.ends at end r
-
-  abbrev pub PartsAreHere : ℕ → ℕ → Parts → Type 0
-  PartsAreHere at end r = PartsAre s.table.now s.configuration.now s.places.now.starts s.places.now.ends at end r
-
-  abbrev pub SizedIsHere : ℕ → ℕ → Sized → Type 0
-  SizedIsHere at end r = SizedIs s.table.now s.configuration.now s.places.now.starts s.places.now.ends at end r
-
   abbrev pub MeasureRightIsHere : ℕ → ℕ → ℕ → Bool → Type 0
   MeasureRightIsHere at end room r = MeasureRightIs s.table.now s.configuration.now s.places.now.starts s.places.now.ends at end room r
-
-  abbrev pub FittingItemHere : ℕ → ℕ → ℕ → Type 0
-  FittingItemHere at end room = FittingItem s.table.now s.configuration.now s.places.now.starts s.places.now.ends at end room
-
-  abbrev pub WriteItemIsHere : ℕ → ℕ → List ℤ → List ℤ → Sized → Type 0
-  WriteItemIsHere at end out out' r = WriteItemIs s.table.now s.configuration.now s.places.now.starts s.places.now.ends at end out out' r
 
   abbrev pub FittingRestHere : ℕ → ℕ → ℕ → Type 0
   FittingRestHere at end room = FittingRest s.table.now s.configuration.now s.places.now.starts s.places.now.ends at end room

@@ -1,7 +1,7 @@
 // The words of a right under a match, item by item in preorder.
-ghost use Rattle.std.specs.Prelude.{◌+◌, ◌≤◌, ◌<◌, length};
+ghost use Rattle.std.specs.Prelude.{◌+◌, ◌≤◌, ◌<◌, ◌^◌, length};
 ghost use Rattle.minuska.specs.Bridge.Place.{Decides};
-ghost use Rattle.step.specs.Right.{RestHere, ItemIsHere, SomePiece, PieceIs, IsUpdate, NoUpdate, PartsAreHere, OneNodeIs, SizedIsHere, MeasureRightIsHere, FittingItemHere, WriteItemIsHere, FittingRestHere, WriteRightIsHere};
+ghost use Rattle.step.specs.Right.{RestHere, SomePiece, PieceIs, IsUpdate, NoUpdate, OneNodeIs, MeasureRightIsHere, FittingRestHere, WriteRightIsHere};
 
 use term::Span;
 use term::places::Places;
@@ -40,17 +40,6 @@ fn is_update(table: &[i64], at: usize) -> bool
     table[at] == term::CALL && table[at + 1] == UPDATE
 }
 
-// One item that is no update: a call's value; else where it lies.
-fn item(scope: &Scope, at: usize, end: usize) -> Evaluated
-    requires { RestHere scope.now at end × (at < end) × NoUpdate scope.now.table.now at }
-    ensures { ItemIsHere scope.now at end result }
-{
-    if scope.table[at] == term::CALL {
-        return scope.evaluate(at);
-    }
-    piece(scope.table, at, scope.places)
-}
-
 // How many words an item has, and the place behind it.
 #[derive(Clone, Copy)]
 pub struct Sized {
@@ -76,53 +65,132 @@ pub struct Parts {
     pub next: usize,
 }
 
-// The values of the arguments of the update that stands at a place.
-fn update_parts(scope: &Scope, at: usize, end: usize) -> Parts
-    requires { RestHere scope.now at end × (at < end) × IsUpdate scope.now.table.now at }
-    ensures { PartsAreHere scope.now at end result }
-{
-    let dictionary = scope.evaluate(at + 2);
-    let key = scope.evaluate(dictionary.next);
-    let term = scope.evaluate(key.next);
-    Parts {
-        dictionary: dictionary.value,
-        key: key.value,
-        term: term.value,
-        next: term.next,
-    }
+// The items of a right: over what they are worked out, and where they end. That the rest of a right stands from a place on is asked by each method, and is no ghost
+// field: a ghost field's fact has one proof at most, and this one has a valuation for a witness, of which there are more. That the table is short is one, since the
+// check does not know it of a slice behind two references.
+#[derive(Clone, Copy)]
+struct Items<'a> {
+    scope: &'a Scope<'a>,
+    end: usize,
+    ghost short: { length scope.now.table.now < 2 ^ 60 },
 }
 
-// An update's size.
-fn update_size(scope: &Scope, at: usize, end: usize) -> Sized
-    requires { RestHere scope.now at end × (at < end) × IsUpdate scope.now.table.now at }
-    ensures { SizedIsHere scope.now at end result }
-{
-    let p = update_parts(scope, at, end);
-    let plan = scope.plan(p.dictionary, p.key);
-    Sized {
-        words: scope.plan_size(p.dictionary, plan, p.term),
-        next: p.next,
-    }
-}
+impl Items<'_> {
+    ghost use Rattle.step.specs.Items.{ItemStands, ItemIsAt, PartsAreAt, SizedIsAt, FittingItemAt, WriteItemIsAt};
 
-// One item's size.
-fn item_size(scope: &Scope, at: usize, end: usize) -> Sized
-    requires { RestHere scope.now at end × (at < end) }
-    ensures { SizedIsHere scope.now at end result }
-{
-    if gives_one_node(scope.table, at) {
-        return Sized {
-            words: 2,
-            next: value::short::call_end(scope.table, at),
-        };
+    // One item that is no update: a call's value; else where it lies.
+    fn item(self, at: usize) -> Evaluated
+        requires { ItemStands self at × NoUpdate self.scope.now.table.now at }
+        ensures { ItemIsAt self.entry at result }
+    {
+        if self.scope.table[at] == term::CALL {
+            return self.scope.evaluate(at);
+        }
+        piece(self.scope.table, at, self.scope.places)
     }
-    if is_update(scope.table, at) {
-        return update_size(scope, at, end);
+
+    // The values of the arguments of the update that stands at a place.
+    fn update_parts(self, at: usize) -> Parts
+        requires { ItemStands self at × IsUpdate self.scope.now.table.now at }
+        ensures { PartsAreAt self.entry at result }
+    {
+        let dictionary = self.scope.evaluate(at + 2);
+        let key = self.scope.evaluate(dictionary.next);
+        let term = self.scope.evaluate(key.next);
+        Parts {
+            dictionary: dictionary.value,
+            key: key.value,
+            term: term.value,
+            next: term.next,
+        }
     }
-    let x = item(scope, at, end);
-    Sized {
-        words: x.value.size(),
-        next: x.next,
+
+    // An update's size.
+    fn update_size(self, at: usize) -> Sized
+        requires { ItemStands self at × IsUpdate self.scope.now.table.now at }
+        ensures { SizedIsAt self.entry at result }
+    {
+        let p = self.update_parts(at);
+        let plan = self.scope.plan(p.dictionary, p.key);
+        Sized {
+            words: self.scope.plan_size(p.dictionary, plan, p.term),
+            next: p.next,
+        }
+    }
+
+    // One item's size.
+    fn item_size(self, at: usize) -> Sized
+        requires { ItemStands self at }
+        ensures { SizedIsAt self.entry at result }
+    {
+        if gives_one_node(self.scope.table, at) {
+            return Sized {
+                words: 2,
+                next: value::short::call_end(self.scope.table, at),
+            };
+        }
+        if is_update(self.scope.table, at) {
+            return self.update_size(at);
+        }
+        let x = self.item(at);
+        Sized {
+            words: x.value.size(),
+            next: x.next,
+        }
+    }
+
+    // An update's words. Not inlined: the places of its parts would be reckoned in front of the loop over a right's items, 13 instructions more in a short step of 574.
+    #[inline(never)]
+    fn write_update(self, at: usize, out: &mut [i64]) -> Sized
+        requires { FittingItemAt self at (length out.old) × IsUpdate self.scope.now.table.now at }
+        ensures { WriteItemIsAt self.entry at out.old out.new result }
+    {
+        let p = self.update_parts(at);
+        let plan = self.scope.plan(p.dictionary, p.key);
+        Sized {
+            words: self.scope.put_plan(out, p.dictionary, plan, p.term),
+            next: p.next,
+        }
+    }
+
+    // Writes one item's words from the start of out.
+    fn write_item(self, at: usize, out: &mut [i64]) -> Sized
+        requires { FittingItemAt self at (length out.old) }
+        ensures { WriteItemIsAt self.entry at out.old out.new result }
+    {
+        if is_update(self.scope.table, at) {
+            return self.write_update(at, out);
+        }
+        self.write_value(at, out)
+    }
+
+    // The words of an item that is no update: a short call's two as they are computed, a node's two, else those of the item's value.
+    fn write_value(self, at: usize, out: &mut [i64]) -> Sized
+        requires { FittingItemAt self at (length out.old) × NoUpdate self.scope.now.table.now at }
+        ensures { WriteItemIsAt self.entry at out.old out.new result }
+    {
+        let tag = self.scope.table[at];
+        if tag == term::CALL {
+            if value::short::is_short_call(self.scope.table, at) {
+                let root = self.scope.short_call(at);
+                return Sized {
+                    words: self.scope.put(out, Value::Computed(root)),
+                    next: at + 6,
+                };
+            }
+        } else if tag != term::VARIABLE {
+            let datum = self.scope.table[at + 1];
+            let node = Value::Computed(Root { tag, datum });
+            return Sized {
+                words: self.scope.put(out, node),
+                next: at + 2,
+            };
+        }
+        let x = self.item(at);
+        Sized {
+            words: self.scope.put(out, x.value),
+            next: x.next,
+        }
     }
 }
 
@@ -133,11 +201,15 @@ pub fn measure_right(scope: &Scope, right: Span, room: usize) -> bool
     requires { RestHere scope.now right.from right.to }
     ensures { MeasureRightIsHere scope.now right.from right.to room result }
 {
+    let items = Items {
+        scope,
+        end: right.to,
+    };
     let mut i = right.from;
     let mut left = room;
     // A while loop: each item says where the next begins.
-    while i < right.to {
-        let x = item_size(scope, i, right.to);
+    while i < items.end {
+        let x = items.item_size(i);
         if left < x.words {
             return false;
         }
@@ -147,70 +219,20 @@ pub fn measure_right(scope: &Scope, right: Span, room: usize) -> bool
     true
 }
 
-// An update's words. Not inlined: the places of its parts would be reckoned in front of the loop over a right's items, 13 instructions more in a short step of 574.
-#[inline(never)]
-fn write_update(scope: &Scope, at: usize, end: usize, out: &mut [i64]) -> Sized
-    requires { FittingItemHere scope.now at end (length out.old) × IsUpdate scope.now.table.now at }
-    ensures { WriteItemIsHere scope.now at end out.old out.new result }
-{
-    let p = update_parts(scope, at, end);
-    let plan = scope.plan(p.dictionary, p.key);
-    Sized {
-        words: scope.put_plan(out, p.dictionary, plan, p.term),
-        next: p.next,
-    }
-}
-
-// Writes one item's words from the start of out.
-fn write_item(scope: &Scope, at: usize, end: usize, out: &mut [i64]) -> Sized
-    requires { FittingItemHere scope.now at end (length out.old) }
-    ensures { WriteItemIsHere scope.now at end out.old out.new result }
-{
-    if is_update(scope.table, at) {
-        return write_update(scope, at, end, out);
-    }
-    write_value(scope, at, end, out)
-}
-
-// The words of an item that is no update: a short call's two as they are computed, a node's two, else those of the item's value.
-fn write_value(scope: &Scope, at: usize, end: usize, out: &mut [i64]) -> Sized
-    requires { FittingItemHere scope.now at end (length out.old) × NoUpdate scope.now.table.now at }
-    ensures { WriteItemIsHere scope.now at end out.old out.new result }
-{
-    let tag = scope.table[at];
-    if tag == term::CALL {
-        if value::short::is_short_call(scope.table, at) {
-            let root = scope.short_call(at);
-            return Sized {
-                words: scope.put(out, Value::Computed(root)),
-                next: at + 6,
-            };
-        }
-    } else if tag != term::VARIABLE {
-        let datum = scope.table[at + 1];
-        let node = Value::Computed(Root { tag, datum });
-        return Sized {
-            words: scope.put(out, node),
-            next: at + 2,
-        };
-    }
-    let x = item(scope, at, end);
-    Sized {
-        words: scope.put(out, x.value),
-        next: x.next,
-    }
-}
-
 // Writes the words of the items of a right from the start of out, and says how many.
 pub fn write_right(scope: &Scope, right: Span, out: &mut [i64]) -> usize
     requires { FittingRestHere scope.now right.from right.to (length out.old) }
     ensures { WriteRightIsHere scope.now right.from right.to out.old out.new result }
 {
+    let items = Items {
+        scope,
+        end: right.to,
+    };
     let mut i = right.from;
     let mut o: usize = 0;
     // A while loop: each item says where the next begins.
-    while i < right.to {
-        let x = write_item(scope, i, right.to, &mut out[o..]);
+    while i < items.end {
+        let x = items.write_item(i, &mut out[o..]);
         o += x.words;
         i = x.next;
     }

@@ -1,6 +1,6 @@
 -- The words that the plan says.
 use Rattle.step.proofs.UpdateLaw.{parts_values, parts_words, parts_room}
-use Rattle.step.proofs.right.write_update.Goals as goal
+use Rattle.step.proofs.right.Items.write_update.Goals as goal
 
 pub plan-plan-requires : goal.plan-plan-requires
 plan-plan-requires c = let q = parts_values _ _ _ _ _ _ _ c.update_parts-p.ensures c.requires.0.rest in (q.0, q.1)

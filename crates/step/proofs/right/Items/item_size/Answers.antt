@@ -1,6 +1,6 @@
 -- A call that gives one node ends where its term ends; any other item has its value's size.
 use Rattle.step.proofs.RightLaw.{node_within, call_needs, call_sized, item_ordered, item_sized}
-use Rattle.step.proofs.right.item_size.Goals as goal
+use Rattle.step.proofs.right.Items.item_size.Goals as goal
 
 pub gives_one_node-requires : goal.gives_one_node-requires
 gives_one_node-requires c = node_within c.requires.1 c.requires.0
