@@ -1,5 +1,5 @@
 // Words read from a text, with its groups. A word for which there is no room is left out.
-ghost use Rattle.std.specs.Prelude.{◌≤◌, length};
+ghost use Rattle.std.specs.Prelude.{◌≤◌};
 
 // A word as a number; a word below 0 is the largest number.
 pub fn number(word: i64) -> usize {

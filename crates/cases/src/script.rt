@@ -58,10 +58,10 @@ fn checked(rt: &impl Print, what: &str, name: &[u8], check: Result<(), Refusal>)
 }
 
 // A call: the numbers of its line are its other arguments. The letter is the file's: an enum of calls would be made of it by the same match.
-fn run_call(rt: &impl Print, key: u8, name: &[u8], call: Call) -> io::Result<()> {
+fn run_call(rt: &impl Print, letter: u8, name: &[u8], call: Call) -> io::Result<()> {
     rt.write_all(name)?;
     print!(rt; ": ")?;
-    match key {
+    match letter {
         b'v' => call.value(rt),
         b'a' => call.part(rt),
         b'm' => call.left(rt),
@@ -98,7 +98,7 @@ fn run_line(rt: &impl Print, line: &[u8], kept: &mut Kept) -> io::Result<()> {
             Ok(())
         }
         b'#' => Ok(()),
-        key => run_call(rt, key, name, kept.call(numbers)),
+        letter => run_call(rt, letter, name, kept.call(numbers)),
     }
 }
 

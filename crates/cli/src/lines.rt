@@ -1,5 +1,5 @@
 // The four lines.
-ghost use Rattle.std.specs.Prelude.{◌≡◌, ◌<◌, suc, length, take, drop, option_map};
+ghost use Rattle.std.specs.Prelude.{◌≡◌, option_map};
 ghost use Rattle.cli.specs.Computed.Lines.{first_lf, split_line, lines_of, texts};
 
 // A line has no more bytes before its LF.

@@ -1,6 +1,6 @@
 // A frame's table of configurations that were searched before, in the words that its own configuration leaves free (specs/Memory). One slot is looked at for a
 // configuration, whatever the table holds; an entry that falls into a slot replaces what stood there.
-ghost use Rattle.std.specs.Prelude.{◌≡◌, true, ◌⊎◌, ◌+◌, ◌*◌, ◌^◌, ◌≤◌, ◌<◌, length, IfSome};
+ghost use Rattle.std.specs.Prelude.{◌≡◌, true, ◌+◌, ◌*◌, ◌≤◌, ◌<◌, length, IfSome};
 ghost use Rattle.memory.specs.Layout.{length_of, OwnFits};
 ghost use Rattle.memory.specs.Memory.{least, Entry, Slot, InSlot, Heads, Opens, Readies, Puts, Keeping};
 

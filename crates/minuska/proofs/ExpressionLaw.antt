@@ -1,22 +1,19 @@
 -- ⊨e as A.1.2 has it: its first clause is "ρ, g ⊨e e if ρ, g ⊨E e for any e : E". `Instantiates` has no such clause, and needs none.
-use mathlib.Core.Bool.{◌&&◌}
 use mathlib.Core.Logic.{◌↔◌}
 use lib.Dec.{T}
 use Rattle.minuska.specs.Term.{Forest, nil, node, Role, a_variable, a_call, plain, role, ground_at, is_ground}
 use Rattle.minuska.specs.Satisfaction.{Valuation, Evaluates, Instantiates}
 use Rattle.minuska.specs.Rule.{inner_at, in_expression, expression_at, is_expression, is_expression_term}
-use Rattle.minuska.proofs.Tests.{and_left, and_right, and_both}
+use Rattle.minuska.proofs.Tests.{and_left, and_right, and_both, and_parts}
 use Rattle.minuska.proofs.ValueLaw.{evaluates_value, value_evaluates, instantiates_value, value_instantiates}
 
 -- ground terms are expression terms, and so are expressions
 ground_term : (f : Forest) → T (is_ground f) → T (is_expression_term f)
 ground_term nil x = tt
 ground_term (node l cs ss) x =
-    let a = ground_at (role l) in
-    let b = is_ground cs in
-    let c = is_ground ss in
+    let o = and_parts (ground_at (role l)) (is_ground cs) (is_ground ss) x in
     and_both (expression_at (role l) (is_expression cs) (is_expression_term cs)) (is_expression_term ss)
-    (at (role l) (and_left a b (and_left (a && b) c x)) (ground_term cs (and_right a b (and_left (a && b) c x)))) (ground_term ss (and_right (a && b) c x))
+    (at (role l) o.0 (ground_term cs o.1)) (ground_term ss o.2)
   where
     at : (r : Role) → T (ground_at r) → T (is_expression_term cs) → T (expression_at r (is_expression cs) (is_expression_term cs))
     at (a_variable v) g k = absurd g

@@ -19,7 +19,7 @@ use Rattle.minuska.specs.Contract.{SubtermContract}
 use Rattle.minuska.specs.Bridge.Place.{Stands}
 use Rattle.minuska.specs.Computed.Read.{read_configuration}
 use Rattle.minuska.specs.Computed.Outcome.{term_words, subterm_words}
-use Rattle.minuska.proofs.Tests.{and_left, and_right, and_both}
+use Rattle.minuska.proofs.Tests.{and_both, and_parts}
 use Rattle.minuska.proofs.WordLaw.{okay, okay_all, encode_length}
 use Rattle.minuska.proofs.ConfigurationLaw.{read_configuration_iff}
 use Rattle.minuska.proofs.Bridge.PartLaw.{configuration_good}
@@ -45,11 +45,7 @@ subterm_none (node l cs ss) (suc i) h =
 
 -- a test of every label, part by part
 every_cases : (p : Label → Bool) (l : Label) (cs ss : Forest) → T (every_label p (node l cs ss)) → T (p l) × T (every_label p cs) × T (every_label p ss)
-every_cases p l cs ss x =
-    let a = p l in
-    let b = every_label p cs in
-    let c = every_label p ss in
-    (and_left a b (and_left (a && b) c x), and_right a b (and_left (a && b) c x), and_right (a && b) c x)
+every_cases p l cs ss = and_parts (p l) (every_label p cs) (every_label p ss)
 
 pub subterm_in : (f : Forest) (i : ℕ) → i < nodes f → SubtermIn f i
 subterm_in nil i h = absurd (let f : ⊥ = omega arith in f)

@@ -1,13 +1,12 @@
 // The search has ended: its answer, in the slices that are lent for it.
 ghost use Rattle.std.specs.Prelude.{◌≡◌, ◌++◌, ℕ, pred, ◌+◌, ◌≤◌, ◌<◌, length, get_or, drop};
-ghost use Rattle.minuska.specs.Slice.{write_zeros};
 ghost use Rattle.minuska.specs.Computed.Step.{order};
 ghost use Rattle.replay.specs.Reading.{table_of};
 ghost use Rattle.memory.specs.Layout.{base, frame_at, position_of};
 ghost use Rattle.replay.specs.Stack.{chosen};
 ghost use Rattle.replay.specs.Turns.{position_at, Begun};
 ghost use Rattle.replay.specs.Standing.{Fits};
-ghost use Rattle.replay.specs.Endings.{restored, FoundWithin, EndContract};
+ghost use Rattle.replay.specs.Endings.{FoundWithin, EndContract};
 
 use crate::search::Search;
 use memory::frame;

@@ -1,8 +1,8 @@
 // A depth-first search over frames in the work area: frame i holds the configuration after i actions of the log. The last depth needs no frame, since what
 // stands there is the answer: each successor is made at the start of out, and copied into the next frame.
-ghost use Rattle.std.specs.Prelude.{◌≡◌, false, ◌+◌, ◌≤◌, ◌<◌, ℕ, length, get_or, IfSome, IfNone};
+ghost use Rattle.std.specs.Prelude.{◌≡◌, false, ◌≤◌, ◌<◌, length, get_or, IfSome, IfNone};
 ghost use Rattle.minuska.specs.Computed.Step.{order};
-ghost use Rattle.memory.specs.Layout.{max_room, frame_at, words_of, OwnFits};
+ghost use Rattle.memory.specs.Layout.{max_room, words_of};
 ghost use Rattle.replay.specs.Reading.{table_of};
 
 use memory::frame;

@@ -18,7 +18,7 @@ ghost use Rattle.step.specs.Verdict.{VerdictHere};
 ghost use Rattle.step.specs.Among.{KeyFor, AmongIs};
 
 use crate::rule::{Attempt, Obstacle};
-use minuska::limits::{MAX_CONFIGURATION_WORDS, MAX_NODES, MAX_RULES};
+use minuska::limits::{MAX_NODES, MAX_RULES};
 use minuska::{Index, MatchAnswer, Refusal, Stepped};
 use table::checked::{Candidate, Table};
 use term::configuration::Configuration;
@@ -137,14 +137,14 @@ impl Game<'_> {
     }
 
     // The step by one given rule.
-    pub fn by_rule(self, rule: usize, out: &mut [i64]) -> Result<Option<Stepped>, Refusal>
-        ensures { StepByRuleContract self.entry.table.words.now self.entry.configuration.words.now rule out.old out.new result }
+    pub fn by_rule(self, number: usize, out: &mut [i64]) -> Result<Option<Stepped>, Refusal>
+        ensures { StepByRuleContract self.entry.table.words.now self.entry.configuration.words.now number out.old out.new result }
     {
-        let Some(rule) = self.table.rule(rule) else {
+        let Some(named) = self.table.rule(number) else {
             return Ok(None);
         };
         let mut last = Obstacle::Left(0);
-        apply_among(Candidate::alone(rule), self.configuration, &mut last, out)
+        apply_among(Candidate::alone(named), self.configuration, &mut last, out)
     }
 
     // The step.

@@ -75,10 +75,10 @@ impl<'a> Table<'a> {
     }
 
     // A rule's action. 0 of a number that names none, as the contract `ActionIs` has it: a public function, which asks no more of callers.
-    pub fn action(self, rule: usize) -> u16
-        ensures { ActionIs self.entry.words.now rule result }
+    pub fn action(self, number: usize) -> u16
+        ensures { ActionIs self.entry.words.now number result }
     {
-        match self.rule(rule) {
+        match self.rule(number) {
             Some(rule) => rule.action(),
             None => 0,
         }

@@ -1,5 +1,5 @@
 // Expressions: variables that were flagged, calls but no updates, and symbols and dictionaries over ground terms.
-ghost use Rattle.std.specs.Prelude.{◌≡◌, ◌+◌, ◌≤◌, length};
+ghost use Rattle.std.specs.Prelude.{◌≤◌, length};
 ghost use Rattle.minuska.specs.Computed.Read.{max_children};
 ghost use Rattle.table.specs.Level.{Expression};
 ghost use Rattle.table.specs.Reach.{EndIs, GroundEndIs, TurnIs};

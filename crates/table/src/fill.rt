@@ -1,5 +1,4 @@
 // The table's check, in one pass that fills the index.
-ghost use Rattle.std.specs.Prelude.{◌≡◌};
 ghost use Rattle.table.specs.Index.{IndexTableContract};
 
 use crate::index::{FIRST_RULE, row_from};

@@ -1,5 +1,5 @@
 // One node of a table's terms: what its two words are, and whether a variable may stand where it stands.
-ghost use Rattle.std.specs.Prelude.{◌≡◌, Option, Bool, pos, ◌≤◌, ◌<◌, length};
+ghost use Rattle.std.specs.Prelude.{◌≡◌, Option, pos, ◌≤◌, ◌<◌, length};
 ghost use Rattle.minuska.specs.Computed.Read.{variable_tag, call_tag, dictionary_tag};
 ghost use Rattle.minuska.specs.Word.{variables};
 ghost use Rattle.table.specs.Node.{known_functions, node_of, side_level, Known, FoundAt, TakesVariable};

@@ -104,12 +104,8 @@ fn side_turn<const LEFT: bool, const MIXED: bool>(
             met: false,
         }),
         Node::Literal { children } => literal_turn::<MIXED>(table, i, children),
-        Node::Call { children, code } => {
-            if LEFT {
-                return None;
-            }
-            call_turn::<MIXED>(table, i, children, code, seen)
-        }
+        Node::Call { .. } if LEFT => None,
+        Node::Call { children, code } => call_turn::<MIXED>(table, i, children, code, seen),
         Node::Variable { number } => {
             if !takes_variable::<LEFT>(number, seen) {
                 return None;

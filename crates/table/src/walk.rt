@@ -1,5 +1,4 @@
 // One term of a rule, if it has at most 512 nodes and its dictionaries are in order.
-ghost use Rattle.std.specs.Prelude.{◌≡◌};
 ghost use Rattle.table.specs.Node.{side_level};
 ghost use Rattle.table.specs.Part.{Ending, TermIs, ExpressionIs, SideFound};
 

@@ -204,7 +204,7 @@ pub fn check_configuration(words: &[i64]) -> Result<(), Refusal>
 }
 
 // The part that is the subterm at a place, a node's number in preorder; empty if there is none, or no configuration.
-pub fn subterm<'a>(words: &'a [i64], place: usize) -> &'a [i64]
+pub fn subterm(words: &[i64], place: usize) -> &[i64]
     ensures { SubtermContract words.now place result.now }
 {
     if words.len() / 2 <= place || check_configuration(words).is_err() {

@@ -1,7 +1,7 @@
 // The value of an expression over a lent table and a lent configuration, and a side condition.
 #![tactic(auto)]
 
-ghost use Rattle.std.specs.Prelude.{◌≡◌, ◌+◌, ◌≤◌, length};
+ghost use Rattle.std.specs.Prelude.{◌≡◌, ◌≤◌, length};
 ghost use Rattle.value.specs.Copy.{PutContract};
 ghost use Rattle.value.specs.Scope.{ExpressionHere, EvaluateIs, ConditionHere, ConditionIs, IsWithin, words_of, part_of};
 ghost use Rattle.value.specs.Value.{size_of, Ordered};

@@ -9,7 +9,7 @@ use lib.IntN.{ℤ}
 use Rattle.minuska.specs.Term.{Label, error, truth, whole, variable, call, symbol, dictionary, Forest, nil, node, term_count, every_label, ground_at, role, is_ground}
 use Rattle.minuska.specs.Word.{tag_word, datum_word, ok_below, ok, encode}
 use Rattle.minuska.specs.Bridge.Shape.{shapely, ordered, shut_at, closed}
-use Rattle.minuska.proofs.Tests.{and_left, and_right, and_both}
+use Rattle.minuska.proofs.Tests.{and_parts, and_all}
 use Rattle.minuska.proofs.WordLaw.{okay, okay_all, appended}
 use Rattle.minuska.proofs.Bridge.ShapeLaw.{shaped, shaped_all}
 
@@ -33,13 +33,10 @@ pub record Labels (p : Label → Bool) (l : Label) (cs ss : Forest) : Type 0 whe
 
 pub labels : (p : Label → Bool) (l : Label) (cs ss : Forest) → T (every_label p (node l cs ss)) → Labels p l cs ss
 labels p l cs ss x =
-    let a = p l in
-    let b = every_label p cs in
-    let c = every_label p ss in
-    record { here = and_left a b (and_left (a && b) c x); children = and_right a b (and_left (a && b) c x); rest = and_right (a && b) c x }
+    let o = and_parts (p l) (every_label p cs) (every_label p ss) x in record { here = o.0; children = o.1; rest = o.2 }
 
 pub labels_all : (p : Label → Bool) (l : Label) (cs ss : Forest) → T (p l) → T (every_label p cs) → T (every_label p ss) → T (every_label p (node l cs ss))
-labels_all p l cs ss x y z = and_both (p l && every_label p cs) (every_label p ss) (and_both (p l) (every_label p cs) x y) z
+labels_all p l cs ss = and_all (p l) (every_label p cs) (every_label p ss)
 
 pub appended_labels : (p : Label → Bool) (f g : Forest) → T (every_label p f) → T (every_label p g) → T (every_label p (appended f g))
 appended_labels p nil g x y = y
@@ -78,13 +75,10 @@ pub record Closed (l : Label) (cs ss : Forest) : Type 0 where
 
 pub closed_parts : (l : Label) (cs ss : Forest) → T (closed (node l cs ss)) → Closed l cs ss
 closed_parts l cs ss x =
-    let a = shut_at l (is_ground cs) in
-    let b = closed cs in
-    let c = closed ss in
-    record { here = and_left a b (and_left (a && b) c x); children = and_right a b (and_left (a && b) c x); rest = and_right (a && b) c x }
+    let o = and_parts (shut_at l (is_ground cs)) (closed cs) (closed ss) x in record { here = o.0; children = o.1; rest = o.2 }
 
 pub closed_all : (l : Label) (cs ss : Forest) → T (shut_at l (is_ground cs)) → T (closed cs) → T (closed ss) → T (closed (node l cs ss))
-closed_all l cs ss x y z = and_both (shut_at l (is_ground cs) && closed cs) (closed ss) (and_both (shut_at l (is_ground cs)) (closed cs) x y) z
+closed_all l cs ss = and_all (shut_at l (is_ground cs)) (closed cs) (closed ss)
 
 pub appended_closed : (f g : Forest) → T (closed f) → T (closed g) → T (closed (appended f g))
 appended_closed nil g x y = y

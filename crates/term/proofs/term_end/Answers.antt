@@ -1,6 +1,6 @@
 -- The root is read; the term ends behind it, or where its children do.
-use Rattle.std.proofs.Common.{arith, rules}
-use Rattle.term.proofs.TermEndLaw.{root_node, root_room, ends_behind, children_at_lem, ends_with}
+use Rattle.std.proofs.Common.{rules}
+use Rattle.term.proofs.TermEndLaw.{root_node, ends_behind, children_at_lem, ends_with}
 use Rattle.term.proofs.term_end.Goals as goal
 
 pub walked_children-children-requires : goal.walked_children-children-requires

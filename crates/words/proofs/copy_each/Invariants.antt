@@ -1,5 +1,5 @@
 -- After i turns the first i words of `from` stand at the start of `to`.
-use Rattle.std.proofs.Common.{◌≡◌, ◌≤◌, length}
+use Rattle.std.proofs.Common.{◌≡◌}
 use Rattle.std.proofs.Math.Seq.{paste}
 use Rattle.words.proofs.copy_each.Given as goal
 

@@ -1,6 +1,6 @@
 -- Each answer is one lemma of `MatchingLaw` or `MatchingVariable` at the words that are read.
 use Rattle.std.proofs.lemmas.Grind.{common_steps}
-use Rattle.std.proofs.Common.{◌≡◌, None, ◌+◌, pos, rules, arith, w64, FitsSigned, get_or, sym, ◌∙◌, ap, of_z, refl}
+use Rattle.std.proofs.Common.{◌≡◌, None, ◌+◌, pos, rules, arith, w64, FitsSigned, get_or, sym, ap, of_z, refl}
 use mathlib.Core.Path.{subst⁻¹}
 use Rattle.std.proofs.lemmas.Int.{to_z-of_z}
 use lib.Dec.{T}

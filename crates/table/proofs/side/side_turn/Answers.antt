@@ -16,14 +16,14 @@ literal_turn-requires g c = rw c.in-Literal.is at c.in_ok-children.ensures
 pub returns-in-Literal : goal.returns-in-Literal
 returns-in-Literal g c = c.literal_turn.ensures.at _ _
 
-pub returns-then-this-ne0 : goal.returns-then-this-ne0
-returns-then-this-ne0 g c = let h = rw c.in-Call.is at c.in_ok-children.ensures in call_in_left (search rules) h _
+pub returns-in-Call : goal.returns-in-Call
+returns-in-Call g c = let h = rw c.in-Call.is at c.in_ok-children.ensures in call_in_left (search rules) h _
 
 pub call_turn-requires : goal.call_turn-requires
 call_turn-requires g c = rw c.in-Call.is at c.in_ok-children.ensures
 
-pub returns-else-this-ne0 : goal.returns-else-this-ne0
-returns-else-this-ne0 g c = call_in_right _ _ _ _ _ _ (search rules) c.call_turn.ensures
+pub returns-in-Call-2 : goal.returns-in-Call-2
+returns-in-Call-2 g c = call_in_right _ _ _ _ _ _ (search rules) c.call_turn.ensures
 
 pub takes_variable-requires : goal.takes_variable-requires
 takes_variable-requires g c = let h = rw c.in-Variable.is at c.in_ok-children.ensures in number_small h.node
