@@ -186,7 +186,7 @@ fn apply_among(
 {
     let mut places = Places::new();
     let mut tried = first;
-    // A loop: each candidate says which is the next.
+    // A loop: each candidate says which is the next; a `for` over `successors` is not proved to end, as in `reason::judge_all`.
     loop {
         let attempt = Attempt {
             rule: tried.rule,

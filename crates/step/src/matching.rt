@@ -76,7 +76,8 @@ pub fn match_left(
     let words = configuration.words;
     let mut i = left.from;
     let mut j: usize = 0;
-    // A while loop: the left goes on by a node, the configuration by a node or a term.
+    // A while loop: the left goes on by a node, the configuration by a node or a term. `for i in (left.from..left.to).step_by(2)` proves, but its own test of the step takes
+    // 1,000 instructions a rule for 889 (200 reel rules that disagree at the last node).
     while i < left.to {
         let Some(turn) = turn_at(table, i, left.to, words, j, places) else {
             return Err((i - left.from) / 2);

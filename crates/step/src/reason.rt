@@ -13,7 +13,8 @@ pub fn judge_all(game: Game, obstacles: &mut [Obstacle]) -> Option<usize>
 {
     let root = table::key::root(game.configuration.words);
     let mut tried = game.table.first(root)?;
-    // A loop: each candidate says which is the next.
+    // A loop: each candidate says which is the next. `std::iter::successors` gives the same candidates, but counts as an iterator with no end: to prove a `for` over it is
+    // to prove `⊥`, which `loop-tried-init` asks.
     loop {
         let rule = tried.rule;
         let Err(obstacle) = crate::judge_alone(Attempt {
@@ -33,6 +34,7 @@ pub fn put_all(obstacles: &[Obstacle], list: &mut [i64])
     requires room { 2 * length obstacles.now ≤ length list.old }
     ensures { PutAllIs obstacles.now list.old list.new }
 {
+    // By places: a zip of `chunks_exact_mut` wants an invariant over both iterators, longer than the sum.
     for (rule, obstacle) in obstacles.iter().enumerate() {
         let (kind, number) = match *obstacle {
             Obstacle::Left(place) => (0, place),
