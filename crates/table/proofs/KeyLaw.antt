@@ -1,11 +1,9 @@
 -- Keys: the key that `key` computes; the rules that `seek` passes over.
-use mathlib.Core.Path.{◌≡◌, refl, sym, ◌∙◌, ap, ap₂, subst}
-use Rattle.std.specs.Prelude.{Option, Some, None, MatchOption}
-use Rattle.std.specs.Option.{unwrap_or}
+use mathlib.Core.Path.{◌≡◌, refl, sym, ◌∙◌, ap, ap₂}
 use mathlib.Core.Logic.{◌⊎◌, inl, inr}
 use mathlib.Core.Option.{some}
 use mathlib.Core.List.{List}
-use Prim.Native.Nat.{ℕ, zero, suc, ◌+◌, ◌-◌, ◌*◌, ◌≤◌, ◌<◌}
+use Prim.Native.Nat.{ℕ, ◌+◌, ◌*◌, ◌≤◌, ◌<◌}
 use native.Mathlib.Decide.{ℕ_discrete}
 use native.Mathlib.Omega.{arith}
 use lib.IntN.{ℤ, pos, negsuc}
@@ -91,23 +89,3 @@ module _ (ws : List ℤ) (index : List Row) (x : Indexed ws index) where
 
     pub all_passed : (to : ℕ) → from ≤ to → RootsPassed ws root from to → SeekIs ws root from to to
     all_passed to h p = record { low = h; high = omega arith; passed = p; stops = λ t r g m b q e f u d. let z : ⊥ = omega arith in z }
-
-    -- ---- the search, as the code sees the row of the rule at a position
-    abbrev pub Met : ℕ → Type 0
-    Met i = (n : ℕ) × (d : Row) × OrderedIs ws i n × (((get_or index n d).key ≡ root) ⊎ ((get_or index n d).key ≡ 0))
-
-    abbrev pub MetNot : ℕ → Type 0
-    MetNot i = (n : ℕ) × (d : Row) × OrderedIs ws i n × ((get_or index n d).key ≡ root → ⊥) × ((get_or index n d).key ≡ 0 → ⊥)
-
-    passed_up : (k : ℕ) → ((i : ℕ) → from ≤ i → i < from + k → MetNot i) → RootsPassed ws root from (from + k)
-    passed_up zero f = subst (RootsPassed ws root from) (omega arith) none_passed
-    passed_up (suc k) f =
-        let m = f (from + k) (omega arith) (omega arith) in
-        subst (RootsPassed ws root from) (omega arith) (passes (from + k) m.0 m.1 m.2 m.3 m.4 (passed_up k (λ i l h. f i l (omega arith))))
-
-    passed_to : (to : ℕ) → from ≤ to → ((i : ℕ) → from ≤ i → i < to → MetNot i) → RootsPassed ws root from to
-    passed_to to l f = subst (RootsPassed ws root from) (omega arith) (passed_up (to - from) (λ i m h. f i m (omega arith)))
-
-    pub seek_sought : (to : ℕ) (r : Option ℕ) → from ≤ to → MatchOption r ((i : ℕ) → from ≤ i → i < to → MetNot i) (λ q. (from ≤ q) × (q < to) × Met q × ((i : ℕ) → from ≤ i → i < q → MetNot i)) → SeekIs ws root from to (unwrap_or r to)
-    seek_sought to (Some q) l m = let y = m.2 in stops_at to q y.0 y.1 y.2 m.0 m.1 (passed_to q m.0 m.3) y.3
-    seek_sought to None l m = all_passed to l (passed_to to l m)

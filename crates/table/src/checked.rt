@@ -1,5 +1,5 @@
 // A table that the check has accepted, with its index.
-ghost use Rattle.std.specs.Prelude.{◌≡◌, ◌≤◌, ◌+◌, IfOk, OnOk, IfErr, Ok, Err, IfSome, IfNone};
+ghost use Rattle.std.specs.Prelude.{◌≡◌, ◌≤◌, IfOk, OnOk, IfErr, Ok, Err, IfSome, IfNone};
 ghost use Rattle.minuska.specs.Bridge.Place.{Indexed, Names, RuleCountIs, ActionIs, OrderedIs, Positions, SeekIs, left_words, right_words, conditions_words, PartIs, SizesAre};
 ghost use Rattle.minuska.specs.Computed.Outcome.{table_check};
 ghost use Rattle.table.specs.Checked.{Indexed-prop, Names-prop, Positions-prop};
@@ -98,16 +98,13 @@ impl<'a> Table<'a> {
         requires { Positions self.words.now to × (from ≤ to) }
         ensures { SeekIs self.entry.words.now root from to result }
     {
-        (from..to)
-            .find(
-                |&i|
-                    requires { Positions self.words.now (i + 1) }
-                {
-                    let key = usize::from(self.index.rows[self.ordered(i)].key);
-                    key == root || key == 0
-                },
-            )
-            .unwrap_or(to)
+        for i in from..to {
+            let key = usize::from(self.index.rows[self.ordered(i)].key);
+            if key == root || key == 0 {
+                return i;
+            }
+        }
+        to
     }
 
     // The first candidate at the positions from one on, up to another, for a configuration whose root has that key.

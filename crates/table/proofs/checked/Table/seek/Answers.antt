@@ -1,16 +1,34 @@
-use Rattle.std.proofs.Common.{ℕ, arith, rules}
-use Rattle.std.specs.declared.ops.Range.{Range}
-use Rattle.std.proofs.lemmas.Iterator.{first_from_Range, serves_from_Range}
-use Rattle.table.proofs.KeyLaw.{Met, MetNot, seek_sought}
+-- What is passed over has another key.
+use Rattle.std.proofs.Common.{◌≡◌, ◌∙◌, sym, arith, rules}
+use Rattle.std.proofs.Math.Logic.{inl, inr}
+use Rattle.table.proofs.KeyLaw.{position_small, none_passed, passes, stops_at, all_passed}
 use Rattle.table.proofs.checked.Table.seek.Goals as goal
+use Rattle.table.proofs.checked.Table.seek.Goals.{then-key-root-via-then-key-root, then-key-root-via-else-key-root+then-key-eq0}
 
-pub find-requires : goal.find-requires
-find-requires c =
-    record { can = tt; finite = tt; callable = serves_from_Range (λ x q k. search rules) (λ x low high y e. record { there = λ t p. let h = c.requires.0.there t p in omega arith }) }
+pub offset_bounds-self-ordered : goal.offset_bounds-self-ordered
+offset_bounds-self-ordered c =
+    let h = position_small _ _ c.args.self.indexed _ _ _ c.requires.0 c.loop-i-test.true c.ordered.ensures in
+    search rules
+
+pub bounds-self-ordered : goal.bounds-self-ordered
+bounds-self-ordered c = position_small _ _ c.args.self.indexed _ _ _ c.requires.0 c.loop-i-test.true c.ordered.ensures
+
+pub loop-i-init : goal.loop-i-init
+loop-i-init c = none_passed _ _ c.args.self.indexed _ _
+
+pub returns-then-key-root : goal.returns-then-key-root
+returns-then-key-root c =
+    stops_at _ _ c.args.self.indexed _ _ _ _ _ _ c.ordered.ensures c.loop-i.auto.i c.loop-i-test.true c.loop-i.invariant
+    (elim c.then-key-root.branch [
+      | then-key-root-via-then-key-root w ↦ inl (sym c.from-key.ensures ∙ w.if-key-root.true)
+      | then-key-root-via-else-key-root+then-key-eq0 w ↦ inr (sym c.from-key.ensures ∙ w.if-key-eq0.true)
+    ])
+
+pub loop-i-preserved : goal.loop-i-preserved
+loop-i-preserved c =
+    passes _ _ c.args.self.indexed _ _ _ _ _ c.ordered.ensures (λ e. c.if-key-root.false (c.from-key.ensures ∙ e)) (λ e. c.if-key-eq0.false (c.from-key.ensures ∙ e)) c.loop-i.invariant
 
 pub returns : goal.returns
 returns c =
-    let range : Range ℕ = record { start = c.args.from; end = c.args.to } in
-    rw c.unwrap_or.ensures
-    (seek_sought _ _ c.args.self.indexed c.args.root c.args.from c.args.to c.find.result c.requires.1
-    (first_from_Range range _ _ c.find.result (Met _ _ c.args.self.indexed c.args.root c.args.from) (MetNot _ _ c.args.self.indexed c.args.root c.args.from) c.find.ensures.ran (λ x q h. search rules) (λ x q h. search rules)))
+    let e : c.loop-i.i ≡ c.args.to = omega arith in
+    all_passed _ _ c.args.self.indexed _ _ _ c.requires.1 (rw e at c.loop-i.invariant)
