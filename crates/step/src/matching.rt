@@ -80,7 +80,7 @@ pub fn match_left(
     for node in 0..(left.to - left.from) / 2 {
         let i = left.from + 2 * node;
         let Some(turn) = turn_at(table, i, left.to, words, j, places) else {
-            return Err((i - left.from) / 2);
+            return Err(node);
         };
         match turn {
             LeftTurn::Same => j += 2,
