@@ -4,7 +4,7 @@ use mathlib.Core.Path.{◌≡◌, refl, sym, ◌∙◌, ap, subst, subst⁻¹}
 use mathlib.Core.Bool.{◌&&◌}
 use mathlib.Core.Option.{none, some, some-injective, none-ne-some}
 use mathlib.Core.List.{List}
-use Prim.Native.Nat.{ℕ, zero, suc, ◌+◌, ◌*◌, ◌^◌, ◌<◌, ◌≤◌}
+use Prim.Native.Nat.{ℕ, zero, suc, ◌+◌, ◌-◌, ◌*◌, ◌/◌, ◌^◌, ◌<◌, ◌≤◌}
 use native.Mathlib.Omega.{arith}
 use native.Mathlib.Decide.{ℕ_discrete}
 use lib.Dec.{T, leb, leb→le}
@@ -133,12 +133,19 @@ module _ (table : List ℤ) (at end : ℕ) (config : List ℤ) (first : List ℕ
       record { passed = 0; far = omega arith; walking = λ l g x y. subst⁻¹ (λ (xs : List ℕ). Walking table end config 0 at 0 starts xs (comparison l g)) e (begins starts x y); keeps = λ v z. ap (λ (xs : List ℕ). get_or xs v 0) f }
 
   module _ {i j : ℕ} {starts ends : List ℕ} (m : MatchingAt i j starts ends) where
+    pub matching_there : {k : ℕ} → k ≡ i → MatchingAt k j starts ends
+    matching_there e = subst⁻¹ (λ (k : ℕ). MatchingAt k j starts ends) e m
+
     module _ (x : LeftIn table at end) (y : Accepted config) where
       here : Walking table end config m.passed i j starts ends (comparison x.left y.term)
       here = m.walking x.left y.term x.is y.is
 
       pub matching_parts : (v : ℕ) → (get_or ends v 0 ≡ 0 → ⊥) → (t : Term) × BoundAt config (get_or starts v 0) (get_or ends v 0) v t
       matching_parts = held here
+
+      -- all its nodes are passed
+      pub all_nodes : {n : ℕ} → i ≡ at + 2 * n → (end - at) / 2 ≤ n → end ≤ i
+      all_nodes e h = omega (arith, x.is.ends, encode_length (single x.left))
 
       pub matched_all : end ≤ i → MatchContract table at end config first starts ends (Ok tt)
       matched_all h = record { each = λ l g a b. all_matched a b h (m.walking l g a b); parts = matching_parts; keeps = m.keeps }

@@ -74,15 +74,14 @@ pub fn match_left(
 {
     places.clear();
     let words = configuration.words;
-    let mut i = left.from;
     let mut j: usize = 0;
-    // A while loop: the left goes on by a node, the configuration by a node or a term. `for i in (left.from..left.to).step_by(2)` proves, but its own test of the step takes
-    // 1,000 instructions a rule for 889 (200 reel rules that disagree at the last node).
-    while i < left.to {
+    // The left goes on by a node, the configuration by a node or a term. Over the nodes: over the words, by `step_by(2)`, a rule takes 1,000 instructions for 830 (200 reel
+    // rules that disagree at the last node).
+    for node in 0..(left.to - left.from) / 2 {
+        let i = left.from + 2 * node;
         let Some(turn) = turn_at(table, i, left.to, words, j, places) else {
-            return Err((i - left.from) / 2);
+            return Err(node);
         };
-        i += 2;
         match turn {
             LeftTurn::Same => j += 2,
             LeftTurn::Bind(v, to) => {
