@@ -93,7 +93,8 @@ impl<'a> Table<'a> {
     }
 
     // The first position from one on, up to another, whose rule's left may match a configuration whose root has that key: the left's is a variable, or has it too.
-    // The last position where there is none, as `SeekIs` has it: a public function; `candidate` makes an Option of it.
+    // The last position where there is none, as `SeekIs` has it: a public function; `candidate` makes an Option of it. A `for`: `find` over the range proves, but takes 6,806 instructions a step for
+    // 6,773 (200 rules).
     pub fn seek(self, root: usize, from: usize, to: usize) -> usize
         requires { Positions self.words.now to × (from ≤ to) }
         ensures { SeekIs self.entry.words.now root from to result }
