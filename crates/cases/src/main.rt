@@ -11,7 +11,7 @@ mod show;
 mod text;
 
 fn main(rt: HostRuntime) -> io::Result<()> {
-    let mut input = [0u8; 131072];
+    let mut input = [0u8; script::MAX_INPUT];
     let read = read_full(&mut rt.stdin(), &mut input)?;
     script::all(&rt, &input[..read])
 }

@@ -102,6 +102,25 @@ fn run_line(rt: &impl Print, line: &[u8], kept: &mut Kept) -> io::Result<()> {
     }
 }
 
+fn run_lines(rt: &impl Print, input: &[u8], kept: &mut Kept) -> io::Result<()> {
+    for line in input.split(|byte| *byte == b'\n') {
+        run_line(rt, line, kept)?;
+    }
+    Ok(())
+}
+
+// The bytes that are read at most.
+pub const MAX_INPUT: usize = 131072;
+
+// How often the input is gone through: once. One that is full and has no line's end is a line that never ends: it is run as often as it has bytes.
+fn turns(input: &[u8]) -> usize {
+    let full = input.len() == MAX_INPUT;
+    if full && input.iter().position(|byte| *byte == b'\n').is_none() {
+        return MAX_INPUT;
+    }
+    1
+}
+
 pub fn all(rt: &impl Print, input: &[u8]) -> io::Result<()> {
     let mut kept = Kept {
         table: [0; 65600],
@@ -111,8 +130,8 @@ pub fn all(rt: &impl Print, input: &[u8]) -> io::Result<()> {
         log: [0; 4200],
         log_len: 0,
     };
-    for line in input.split(|byte| *byte == b'\n') {
-        run_line(rt, line, &mut kept)?;
+    for _ in 0..turns(input) {
+        run_lines(rt, input, &mut kept)?;
     }
     Ok(())
 }

@@ -1,3 +1,4 @@
 pub mod RangeLaw
 pub mod UnpackLaw
 pub mod ReadLaw
+pub mod SaysLaw

@@ -13,7 +13,7 @@ use Rattle.minuska.specs.declared.RunAnswer.TheVariants as R
 use Rattle.minuska.specs.declared.ReplayAnswer.{ReplayAnswer}
 use Rattle.minuska.specs.declared.ReplayAnswer.TheVariants as P
 use Rattle.minuska.specs.Answer.{number}
-use Rattle.minuska.specs.Slice.{run_says}
+use Rattle.minuska.specs.Slice.{check_says, match_says, reasons_says, step_says, run_says, replay_says}
 use Rattle.hethalip.specs.Pack.{pack_check, pack_match, pack_reasons, pack_step, pack_run, pack_replay}
 use Rattle.hethalip.specs.Range.{CheckInRange, MatchInRange, ReasonsInRange, StepInRange, RunInRange, ReplayInRange}
 use Rattle.hethalip.specs.Unpack.{Lossless, unpack_check, unpack_match, unpack_reasons, unpack_step, unpack_run, unpack_replay}
@@ -40,12 +40,12 @@ low_half x above h = omega arith
 
 -- ---- the checks
 check_fits : (a : Result (Unit {0}) Refusal) → CheckInRange a → pack_check a < 2 ^ 64
-unfolding number
+unfolding pack_check check_says number
 check_fits (Ok tt) h = omega arith
 check_fits (Err why) h = omega arith
 
 check_reads : (a : Result (Unit {0}) Refusal) → CheckInRange a → unpack_check (pack_check a) ≡ a
-unfolding unpack_check number
+unfolding pack_check check_says unpack_check number
 check_reads (Ok tt) h = refl
 check_reads (Err why) h = each (λ w. unpack_check (number w) ≡ Err w) refl refl refl refl refl refl refl why
 
@@ -54,13 +54,13 @@ check_lossless = lossless pack_check unpack_check CheckInRange check_fits check_
 
 -- ---- the left of one rule
 match_fits : (a : Result MatchAnswer Refusal) → MatchInRange a → pack_match a < 2 ^ 64
-unfolding number
+unfolding pack_match match_says number
 match_fits (Ok (M.Matches k)) h = omega arith
 match_fits (Ok (M.Differs k)) h = omega arith
 match_fits (Err why) h = omega arith
 
 match_reads : (a : Result MatchAnswer Refusal) → MatchInRange a → unpack_match (pack_match a) ≡ a
-unfolding unpack_match number
+unfolding pack_match match_says unpack_match number
 match_reads (Ok (M.Matches k)) h =
     let e : pack_match (Ok (M.Matches k)) % 2 ^ 8 ≡ 22 = omega arith in
     let f : pack_match (Ok (M.Matches k)) / 2 ^ 8 ≡ k = omega arith in
@@ -76,13 +76,13 @@ match_lossless = lossless pack_match unpack_match MatchInRange match_fits match_
 
 -- ---- the reasons
 reasons_fits : (a : Result (Option ℕ) Refusal) → ReasonsInRange a → pack_reasons a < 2 ^ 64
-unfolding number
+unfolding pack_reasons reasons_says number
 reasons_fits (Ok None) h = omega arith
 reasons_fits (Ok (Some rule)) h = omega arith
 reasons_fits (Err why) h = omega arith
 
 reasons_reads : (a : Result (Option ℕ) Refusal) → ReasonsInRange a → unpack_reasons (pack_reasons a) ≡ a
-unfolding unpack_reasons number
+unfolding pack_reasons reasons_says unpack_reasons number
 reasons_reads (Ok None) h = refl
 reasons_reads (Ok (Some rule)) h =
     let e : pack_reasons (Ok (Some rule)) % 2 ^ 8 ≡ 25 = omega arith in
@@ -95,13 +95,13 @@ reasons_lossless = lossless pack_reasons unpack_reasons ReasonsInRange reasons_f
 
 -- ---- the step, and the step by one given rule
 step_fits : (a : Result (Option Stepped) Refusal) → StepInRange a → pack_step a < 2 ^ 64
-unfolding number
+unfolding pack_step step_says number
 step_fits (Ok (Some s)) h = omega arith
 step_fits (Ok None) h = omega arith
 step_fits (Err why) h = omega arith
 
 step_reads : (a : Result (Option Stepped) Refusal) → StepInRange a → unpack_step (pack_step a) ≡ a
-unfolding unpack_step number
+unfolding pack_step step_says unpack_step number
 step_reads (Ok (Some s)) h =
     let r : ℕ = pack_step (Ok (Some s)) in
     let k : r % 2 ^ 8 ≡ 17 = omega arith in
@@ -119,14 +119,14 @@ step_lossless = lossless pack_step unpack_step StepInRange step_fits step_reads
 
 -- ---- the run
 run_fits : (a : Result RunAnswer Refusal) → RunInRange a → pack_run a < 2 ^ 64
-unfolding run_says number
+unfolding pack_run run_says number
 run_fits (Ok (R.Stuck k)) h = omega arith
 run_fits (Ok (R.Spent k)) h = omega arith
 run_fits (Ok (R.Over k)) h = omega arith
 run_fits (Err why) h = omega arith
 
 run_reads : (a : Result RunAnswer Refusal) → RunInRange a → unpack_run (pack_run a) ≡ a
-unfolding unpack_run run_says number
+unfolding pack_run unpack_run run_says number
 run_reads (Ok (R.Stuck k)) h =
     let e : pack_run (Ok (R.Stuck k)) % 2 ^ 8 ≡ 18 = omega arith in
     let f : pack_run (Ok (R.Stuck k)) / 2 ^ 8 ≡ k = omega arith in
@@ -147,13 +147,13 @@ run_lossless = lossless pack_run unpack_run RunInRange run_fits run_reads
 
 -- ---- the replay
 replay_fits : (a : Result ReplayAnswer Refusal) → ReplayInRange a → pack_replay a < 2 ^ 64
-unfolding number
+unfolding pack_replay replay_says number
 replay_fits (Ok P.Reproduced) h = omega arith
 replay_fits (Ok P.NotReproduced) h = omega arith
 replay_fits (Err why) h = omega arith
 
 replay_reads : (a : Result ReplayAnswer Refusal) → ReplayInRange a → unpack_replay (pack_replay a) ≡ a
-unfolding unpack_replay number
+unfolding pack_replay replay_says unpack_replay number
 replay_reads (Ok P.Reproduced) h = refl
 replay_reads (Ok P.NotReproduced) h = refl
 replay_reads (Err why) h = each (λ w. unpack_replay (number w) ≡ Err w) refl refl refl refl refl refl refl why

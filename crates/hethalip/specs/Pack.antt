@@ -9,7 +9,7 @@ use Rattle.minuska.specs.declared.RunAnswer.TheVariants as R
 use Rattle.minuska.specs.declared.ReplayAnswer.{ReplayAnswer}
 use Rattle.minuska.specs.declared.ReplayAnswer.TheVariants as P
 use Rattle.minuska.specs.Answer.{number}
-use Rattle.minuska.specs.Slice.{run_says}
+use Rattle.minuska.specs.Slice.{check_says, match_says, reasons_says, step_says, run_says, replay_says}
 use Rattle.hethalip.specs.declared.pack.Kind.{Kind}
 use Rattle.hethalip.specs.declared.pack.Kind.TheVariants as K
 
@@ -58,28 +58,34 @@ abbrev pub replay_number : ReplayAnswer → ℕ
 replay_number P.Reproduced = 20
 replay_number P.NotReproduced = 21
 
--- 1 to 6: document 01's number of a refusal
+-- 1 to 6: document 01's number of a refusal, as what is answered says it
+unfoldable pub pack_check : Result (Unit {0}) Refusal → ℕ
+pack_check answer = (check_says answer).number
+
+unfoldable pub pack_match : Result MatchAnswer Refusal → ℕ
+pack_match (Ok answer) = match_number answer
+pack_match (Err why) = (match_says (Err why)).number
+
+unfoldable pub pack_reasons : Result (Option ℕ) Refusal → ℕ
+pack_reasons (Ok answer) = reasons_number answer
+pack_reasons (Err why) = (reasons_says (Err why)).number
+
+unfoldable pub pack_step : Result (Option Stepped) Refusal → ℕ
+pack_step (Ok answer) = step_number answer
+pack_step (Err why) = (step_says (Err why)).number
+
+unfoldable pub pack_run : Result RunAnswer Refusal → ℕ
+pack_run (Ok answer) = run_number answer
+pack_run (Err why) = (run_says (Err why)).number
+
+unfoldable pub pack_replay : Result ReplayAnswer Refusal → ℕ
+pack_replay (Ok answer) = replay_number answer
+pack_replay (Err why) = (replay_says (Err why)).number
+
+-- The one packing of the code: an answer's own number, or the refusal's. `proofs/SaysLaw`: it is each of the six.
 abbrev pub pack : {A : Type 0} → (A → ℕ) → Result A Refusal → ℕ
 pack of (Ok answer) = of answer
 pack of (Err why) = number why
-
-abbrev pub pack_check : Result (Unit {0}) Refusal → ℕ
-pack_check = pack good_number
-
-abbrev pub pack_match : Result MatchAnswer Refusal → ℕ
-pack_match = pack match_number
-
-abbrev pub pack_reasons : Result (Option ℕ) Refusal → ℕ
-pack_reasons = pack reasons_number
-
-abbrev pub pack_step : Result (Option Stepped) Refusal → ℕ
-pack_step = pack step_number
-
-abbrev pub pack_run : Result RunAnswer Refusal → ℕ
-pack_run = pack run_number
-
-abbrev pub pack_replay : Result ReplayAnswer Refusal → ℕ
-pack_replay = pack replay_number
 
 -- THE CONTRACT of every function here: r is the number of an answer that meets the routine's own contract, which says each lent slice afterwards too.
 pub record Packs {A : Type 0} (pack : A → ℕ) (Contract : A → Type 0) (r : ℕ) : Type 0 where

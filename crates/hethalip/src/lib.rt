@@ -10,6 +10,7 @@ use crate::pack::packed;
 
 // The check of a table.
 #[unsafe(no_mangle)]
+#[tactic(auto, using(crate::proofs::SaysLaw::check_packed))]
 pub extern "C" fn hethalip_check_table(table: &[i64]) -> u64
     ensures { Packs pack_check (CheckTableContract table.now) result }
 {
@@ -18,6 +19,7 @@ pub extern "C" fn hethalip_check_table(table: &[i64]) -> u64
 
 // The check of a configuration.
 #[unsafe(no_mangle)]
+#[tactic(auto, using(crate::proofs::SaysLaw::check_packed))]
 pub extern "C" fn hethalip_check_configuration(configuration: &[i64]) -> u64
     ensures { Packs pack_check (CheckConfigurationContract configuration.now) result }
 {
@@ -26,6 +28,7 @@ pub extern "C" fn hethalip_check_configuration(configuration: &[i64]) -> u64
 
 // A rule's left matched against the configuration.
 #[unsafe(no_mangle)]
+#[tactic(auto, using(crate::proofs::SaysLaw::match_packed))]
 pub extern "C" fn hethalip_match(table: &[i64], configuration: &[i64], rule: usize) -> u64
     ensures { Packs pack_match (MatchRuleContract table.now configuration.now rule) result }
 {
@@ -34,6 +37,7 @@ pub extern "C" fn hethalip_match(table: &[i64], configuration: &[i64], rule: usi
 
 // Why each rule does not apply to a stuck configuration: two words for each in the list.
 #[unsafe(no_mangle)]
+#[tactic(auto, using(crate::proofs::SaysLaw::reasons_packed))]
 pub extern "C" fn hethalip_reasons(table: &[i64], configuration: &[i64], list: &mut [i64]) -> u64
     ensures { Packs pack_reasons (ReasonsContract table.now configuration.now list.old list.new) result }
 {
@@ -42,6 +46,7 @@ pub extern "C" fn hethalip_reasons(table: &[i64], configuration: &[i64], list: &
 
 // The step.
 #[unsafe(no_mangle)]
+#[tactic(auto, using(crate::proofs::SaysLaw::step_packed))]
 pub extern "C" fn hethalip_step(table: &[i64], configuration: &[i64], out: &mut [i64]) -> u64
     ensures { Packs pack_step (StepContract table.now configuration.now out.old out.new) result }
 {
@@ -50,6 +55,7 @@ pub extern "C" fn hethalip_step(table: &[i64], configuration: &[i64], out: &mut 
 
 // The step by one given rule.
 #[unsafe(no_mangle)]
+#[tactic(auto, using(crate::proofs::SaysLaw::step_packed))]
 pub extern "C" fn hethalip_step_by_rule(
     table: &[i64],
     configuration: &[i64],
@@ -63,6 +69,7 @@ pub extern "C" fn hethalip_step_by_rule(
 
 // The run: the limit is in nodes.
 #[unsafe(no_mangle)]
+#[tactic(auto, using(crate::proofs::SaysLaw::run_packed))]
 pub extern "C" fn hethalip_run(
     table: &[i64],
     configuration: &[i64],
@@ -79,6 +86,7 @@ pub extern "C" fn hethalip_run(
 
 // The replay: the limit is in nodes.
 #[unsafe(no_mangle)]
+#[tactic(auto, using(crate::proofs::SaysLaw::replay_packed))]
 pub extern "C" fn hethalip_replay(
     table: &[i64],
     configuration: &[i64],

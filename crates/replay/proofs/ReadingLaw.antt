@@ -4,10 +4,10 @@ use mathlib.Core.List.{List, []}
 use lib.IntN.{ℤ}
 use Rattle.minuska.specs.Term.{Term, error, leaf}
 use Rattle.minuska.specs.Rule.{Table, IsTable, IsConfiguration}
-use Rattle.minuska.specs.Bridge.Place.{Accepted}
+use Rattle.minuska.specs.Bridge.Place.{Accepted, Indexed}
 use Rattle.minuska.proofs.TableLaw.{read_table_iff}
 use Rattle.minuska.proofs.ConfigurationLaw.{read_configuration_iff}
-use Rattle.table.specs.declared.checked.Table as Checked
+use Rattle.minuska.specs.declared.Row.{Row}
 use Rattle.replay.specs.Reading.{value_or, table_of, term_of}
 
 pub table_of_lem : (ws : List ℤ) (t : Table) → IsTable ws t → table_of ws ≡ t
@@ -26,5 +26,5 @@ pub is_term : (ws : List ℤ) → Accepted ws → IsConfiguration ws (term_of ws
 is_term ws a = rw (term_of_lem ws a.term a.is) a.is
 
 -- a checked table is its words' table
-pub checked_is : (t : Checked.Table) → IsTable t.words.now (table_of t.words.now)
-checked_is t = is_table_lem t.words.now t.indexed.table t.indexed.is
+pub checked_is : {ws : List ℤ} {rows : List Row} → Indexed ws rows → IsTable ws (table_of ws)
+checked_is {ws} x = is_table_lem ws x.table x.is

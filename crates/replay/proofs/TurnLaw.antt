@@ -46,7 +46,7 @@ pub record Searches (ws : List ℤ) (rules room : ℕ) (log : List ℕ) (out wor
   pub slices : SlicesFit room log out work
 
 pub searches : (s : Search) (out work : List ℤ) → SlicesFit s.room s.log.now out work → Searches s.table.words.now s.rules s.room s.log.now out work
-searches s out work f = record { good = checked_is s.table; rules_are = s.rules_are; few = s.few; narrow = s.narrow; slices = f }
+searches s out work f = record { good = checked_is s.table.indexed; rules_are = s.rules_are; few = s.few; narrow = s.narrow; slices = f }
 
 module _ (ws : List ℤ) (rules room : ℕ) (log : List ℕ) (out work : List ℤ) (d : ℕ) (rm : Searches ws rules room log out work) (deep : d < length log) (s : SoundFrames rules room (length log) work d) where
   abbrev t : Table

@@ -17,7 +17,7 @@ fn choice_at(search: &Search, frame: &[i64]) -> u16
     requires { (2 ≤ length frame.now) × Begun search.now.rules frame.now }
     ensures { result ≡ get_or (order (table_of search.now.table.words.now)) (pred (position_of frame.now)) 0 }
 {
-    search.table.ordered(frame::position(frame) - 1) as u16
+    step::ordered(search.table, frame::position(frame) - 1) as u16
 }
 
 // The rules that led to the end of the log.

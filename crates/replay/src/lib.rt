@@ -16,8 +16,7 @@ use crate::search::Search;
 use memory::frame;
 use minuska::limits::MAX_ACTIONS;
 use minuska::{Index, Refusal, ReplayAnswer};
-use step::Game;
-use term::configuration::Configuration;
+use step::{Configuration, Game};
 
 // What out holds, kept in the frame behind those of the log; none of these holds a configuration, but the first the initial one.
 fn set_up(work: &mut [i64], out: &[i64], actions: usize, room: usize, configuration: &[i64])
@@ -79,7 +78,7 @@ fn replay_checked(
     let search = Search {
         table: game.table,
         log,
-        rules: game.table.rules(),
+        rules: step::rule_count(game.table),
         room: 2 * limit,
         remember: true,
     };

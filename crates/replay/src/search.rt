@@ -7,9 +7,7 @@ ghost use Rattle.replay.specs.Reading.{table_of};
 
 use memory::frame;
 use minuska::{Refusal, Stepped};
-use step::Game;
-use table::checked::Table;
-use term::configuration::Configuration;
+use step::{Configuration, Game, Table};
 
 // What one turn comes to.
 #[derive(Clone, Copy)]
@@ -61,7 +59,7 @@ impl<'a> Search<'a> {
         ensures none { IfNone result (Skipped (table_of self.now.table.words.now) action from self.now.rules) }
     {
         for position in from..self.rules {
-            if self.table.action(self.table.ordered(position)) == action {
+            if step::action(self.table, step::ordered(self.table, position)) == action {
                 return Some(position);
             }
         }
@@ -79,7 +77,7 @@ impl<'a> Search<'a> {
         requires framed { Framed self.now.rules frame.now }
         ensures { TryContract self.now.table.words.now (words_of frame.now) (get_or (order (table_of self.now.table.words.now)) position 0) self.now.room out.old out.new result }
     {
-        let rule = self.table.ordered(position);
+        let rule = step::ordered(self.table, position);
         let configuration = Configuration {
             words: frame::configuration(frame),
         };

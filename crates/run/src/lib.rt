@@ -12,9 +12,7 @@ ghost use Rattle.run.specs.Ending.{RunEnds, Finishes};
 use minuska::limits::MAX_STEPS;
 use minuska::{Index, Refusal, RunAnswer, Stepped};
 use std::ops::ControlFlow;
-use step::Game;
-use table::checked::Table;
-use term::configuration::Configuration;
+use step::{Configuration, Game, Table};
 
 // Where the current configuration stands: as it was given, in out, or in spare.
 #[derive(Clone, Copy)]

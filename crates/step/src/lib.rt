@@ -10,6 +10,7 @@ mod rule;
 ghost use Rattle.std.specs.Prelude.{◌≡◌, IfOk, OnOk, IfErr, Ok, Err};
 ghost use Rattle.minuska.specs.Contract.{MatchRuleContract, ReasonsContract, StepByRuleContract, StepContract};
 ghost use Rattle.minuska.specs.Computed.Outcome.{table_check, configuration_check, or_second};
+ghost use Rattle.minuska.specs.Bridge.Place.{RuleCountIs, ActionIs, OrderedIs};
 ghost use Rattle.minuska.specs.Slice.{out_limit, write};
 ghost use Rattle.std.specs.Borrow.{sem};
 ghost use Rattle.table.specs.Index.{LeavesIndex, places_found};
@@ -20,9 +21,12 @@ ghost use Rattle.step.specs.Among.{KeyFor, AmongIs};
 use crate::rule::{Attempt, Obstacle};
 use minuska::limits::{MAX_NODES, MAX_RULES};
 use minuska::{Index, MatchAnswer, Refusal, Stepped};
-use table::checked::{Candidate, Table};
-use term::configuration::Configuration;
+use table::checked::Candidate;
 use term::places::Places;
+
+// The two types by which a crate above hands over what was checked.
+pub use table::checked::Table;
+pub use term::configuration::Configuration;
 
 // A checked table, and a configuration to which its rules are applied.
 #[derive(Clone, Copy)]
@@ -102,7 +106,7 @@ pub fn step(
 
 impl Game<'_> {
     // A rule's left against the configuration, by the rule's verdict.
-    fn compare(self, number: usize) -> MatchAnswer
+    pub fn compare(self, number: usize) -> MatchAnswer
         ensures { MatchRuleContract self.entry.table.words.now self.entry.configuration.words.now number (Ok result) }
     {
         let Some(rule) = self.table.rule(number) else {
@@ -226,4 +230,23 @@ fn out_limit(words: usize) -> usize
     ensures { result ≡ out_limit words }
 {
     (words / 2).min(MAX_NODES)
+}
+
+// How many rules a checked table has, a rule's action, and the rule at a position of the order in which rules are tried: for crates above, which cite no contract but of this crate.
+pub fn rule_count(table: Table) -> usize
+    ensures { RuleCountIs table.entry.words.now result }
+{
+    table.rules()
+}
+
+pub fn action(table: Table, rule: usize) -> u16
+    ensures { ActionIs table.entry.words.now rule result }
+{
+    table.action(rule)
+}
+
+pub fn ordered(table: Table, position: usize) -> usize
+    ensures { OrderedIs table.entry.words.now position result }
+{
+    table.ordered(position)
 }

@@ -6,7 +6,7 @@ use crate::{Span, VARIABLES};
 
 // A part of the configuration for each variable that has one; the end of any other is 0. Two arrays, and not one of `Option<Span>`: a place of a configuration has 17 bits, and a match
 // begins anew by clearing 64 bytes.
-#[derive(Drop)]
+#[derive(Clone, Copy)]
 pub struct Places {
     pub starts: [u32; VARIABLES],
     pub ends: [u32; VARIABLES],

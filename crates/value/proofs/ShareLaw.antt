@@ -1,4 +1,4 @@
--- z.share's rounding: the nearer of two numbers by one test, and that the next number fits. The check of `rounding.rt` finds its way without them; they say why it is right.
+-- z.share's rounding: the nearer of two numbers by one test, and that the next number fits: what the check of `rounding.rt` is lent.
 use mathlib.Core.Path.{◌≡◌, refl}
 use mathlib.Core.Bool.{Bool, true, false, cond}
 use Prim.Native.Nat.{ℕ, ◌+◌, ◌*◌, ◌/◌, ◌%◌, ◌^◌, ◌≤◌, ◌<◌}

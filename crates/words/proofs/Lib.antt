@@ -1,3 +1,4 @@
 pub mod PartLaw
 pub mod CopyLaw
 pub mod DecideLaw
+pub mod CopyUpLaw

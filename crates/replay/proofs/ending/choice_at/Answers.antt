@@ -11,12 +11,12 @@ there : (c : goal.After-ordered) → c.position.result - 1 < length (order (tabl
 there c = let b = c.requires.1 in omega (arith, c.args.search.now.rules_are, c.position.ensures, b.some, b.within)
 
 is : (c : goal.After-ordered) → c.ordered.result ≡ get_or (order (table_of c.args.search.now.table.words.now)) (c.position.result - 1) 0
-is c = let s = c.args.search.now in ordered_is s.table.words.now (checked_is s.table) (c.position.result - 1) c.ordered.result (there c) c.ordered.ensures
+is c = let s = c.args.search.now in ordered_is s.table.words.now (checked_is s.table.indexed) (c.position.result - 1) c.ordered.result (there c) c.ordered.ensures
 
 pub overflow_cast-result : goal.overflow_cast-result
 overflow_cast-result c =
     let s = c.args.search.now in
-    let small = rule_small s.table.words.now (checked_is s.table) (c.position.result - 1) (there c) in
+    let small = rule_small s.table.words.now (checked_is s.table.indexed) (c.position.result - 1) (there c) in
     omega (arith, is c)
 
 pub returns : goal.returns

@@ -11,11 +11,11 @@ returns-then-action-clause-found c =
     let l = c.loop-position in
     let here : l.position < length (order (table_of s.table.words.now)) = omega (arith, s.rules_are) in
     rw s.rules_are
-    (seek_found s.table.words.now (checked_is s.table) c.args.action c.args.from l.position c.ordered.result c.action.result l.invariant here c.ordered.ensures c.action.ensures (omega arith) c.if-action.true)
+    (seek_found s.table.words.now (checked_is s.table.indexed) c.args.action c.args.from l.position c.ordered.result c.action.result l.invariant here c.ordered.ensures c.action.ensures (omega arith) c.if-action.true)
 
 pub loop-position-preserved : goal.loop-position-preserved
 loop-position-preserved c =
     let s = c.args.self.now in
     let l = c.loop-position in
     let here : l.position < length (order (table_of s.table.words.now)) = omega (arith, s.rules_are) in
-    seek_on s.table.words.now (checked_is s.table) c.args.action c.args.from l.position c.ordered.result c.action.result l.invariant here c.ordered.ensures c.action.ensures c.if-action.false
+    seek_on s.table.words.now (checked_is s.table.indexed) c.args.action c.args.from l.position c.ordered.result c.action.result l.invariant here c.ordered.ensures c.action.ensures c.if-action.false

@@ -11,4 +11,4 @@ returns c =
     let s = c.args.self.now in
     let there : c.args.position < length (order (table_of s.table.words.now)) = omega (arith, s.rules_are) in
     tried s.table.words.now _ _ _ _ s.room c.args.out.now _ _ c.configuration.ensures
-    (ordered_is s.table.words.now (checked_is s.table) c.args.position c.ordered-rule.result there c.ordered-rule.ensures) c.by_rule.ensures
+    (ordered_is s.table.words.now (checked_is s.table.indexed) c.args.position c.ordered-rule.result there c.ordered-rule.ensures) c.by_rule.ensures

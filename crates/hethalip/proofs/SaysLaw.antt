@@ -1,0 +1,41 @@
+-- THE ONE PACKING of the code is the number of each routine's answer, which goes by what that answer says.
+use mathlib.Core.Path.{◌≡◌, refl}
+use Prim.Native.Nat.{ℕ}
+use Rattle.std.specs.Prelude.{Option, Some, None, Result, Ok, Err}
+use Rattle.minuska.specs.declared.Refusal.{Refusal}
+use Rattle.minuska.specs.declared.Stepped.{Stepped}
+use Rattle.minuska.specs.declared.MatchAnswer.{MatchAnswer}
+use Rattle.minuska.specs.declared.RunAnswer.{RunAnswer}
+use Rattle.minuska.specs.declared.ReplayAnswer.{ReplayAnswer}
+use Rattle.minuska.specs.Slice.{check_says, match_says, reasons_says, step_says, run_says, replay_says}
+use Rattle.hethalip.specs.Pack.{pack, good_number, match_number, reasons_number, step_number, run_number, replay_number, pack_check, pack_match, pack_reasons, pack_step, pack_run, pack_replay}
+
+pub check_packed : (a : Result (Unit {0}) Refusal) → pack good_number a ≡ pack_check a
+unfolding pack_check check_says
+check_packed (Ok tt) = refl
+check_packed (Err why) = refl
+
+pub match_packed : (a : Result MatchAnswer Refusal) → pack match_number a ≡ pack_match a
+unfolding pack_match match_says
+match_packed (Ok answer) = refl
+match_packed (Err why) = refl
+
+pub reasons_packed : (a : Result (Option ℕ) Refusal) → pack reasons_number a ≡ pack_reasons a
+unfolding pack_reasons reasons_says
+reasons_packed (Ok answer) = refl
+reasons_packed (Err why) = refl
+
+pub step_packed : (a : Result (Option Stepped) Refusal) → pack step_number a ≡ pack_step a
+unfolding pack_step step_says
+step_packed (Ok answer) = refl
+step_packed (Err why) = refl
+
+pub run_packed : (a : Result RunAnswer Refusal) → pack run_number a ≡ pack_run a
+unfolding pack_run run_says
+run_packed (Ok answer) = refl
+run_packed (Err why) = refl
+
+pub replay_packed : (a : Result ReplayAnswer Refusal) → pack replay_number a ≡ pack_replay a
+unfolding pack_replay replay_says
+replay_packed (Ok answer) = refl
+replay_packed (Err why) = refl
