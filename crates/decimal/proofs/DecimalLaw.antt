@@ -1,8 +1,10 @@
--- The digits of a number: one digit less is the tenth of it, one digit more is ten times it and the digit; what they begin with.
+-- The digits of a number: one digit less is the tenth of it, one digit more is ten times it and the digit; how many there are; what they begin with.
 use mathlib.Core.Path.{◌≡◌, refl, sym, ap, ◌∙◌}
 use mathlib.Core.List.{List, [], ◌∷◌, ◌++◌}
-use Prim.Native.Nat.{ℕ, zero, suc, ◌+◌, ◌*◌, ◌/◌, ◌%◌, ◌≤◌, ◌<◌}
+use Prim.Native.Nat.{ℕ, zero, suc, ◌+◌, ◌*◌, ◌/◌, ◌%◌, ◌^◌, ◌≤◌, ◌<◌}
 use native.Mathlib.Omega.{arith}
+use native.Mathlib.Nat.{pow-suc}
+use lib.ListN.{length, length-append}
 use Rattle.decimal.specs.Decimal.{digits_within, digits, decimal}
 
 -- any bound that is large enough gives the same digits
@@ -56,6 +58,23 @@ tenths_within P z s (suc f) n p = tenths_step P z s n (λ q. tenths_within P z s
 
 pub by_tenths : (P : ℕ → Type 0) → P 0 → ((n : ℕ) → 0 < n → P (n / 10) → P n) → (n : ℕ) → P n
 by_tenths P z s n = tenths_within P z s n n (omega arith)
+
+-- ---- how many
+one_more : (k n : ℕ) → n < 10 ^ suc k → (n / 10 < 10 ^ k → length (digits (n / 10)) ≤ k) → length (digits n) ≤ suc k
+one_more k zero p h = rw digits_zero (omega arith)
+one_more k (suc n) p h =
+    let p' : suc n < 10 ^ k * 10 = rw pow-suc at p in
+    let i : length (digits (suc n / 10)) ≤ k = h (omega arith) in
+    rw (digits_less (suc n) (omega arith), length-append) (omega arith)
+
+pub digits_length : (k n : ℕ) → n < 10 ^ k → length (digits n) ≤ k
+digits_length zero n p = let e : n ≡ 0 = omega arith in rw (e, digits_zero) (omega arith)
+digits_length (suc k) n p = one_more k n p (λ h. digits_length k (n / 10) h)
+
+pub decimal_length : (n : ℕ) → n < 2 ^ 64 → length (decimal n) ≤ 20
+decimal_length n p =
+    let i : length (digits (n / 10)) ≤ 19 = digits_length 19 (n / 10) (omega arith) in
+    rw (decimal_is n, length-append) (omega arith)
 
 -- ---- the first digit is no zero
 pub record Head (n : ℕ) : Type 0 where

@@ -1,4 +1,4 @@
--- z.share's rounding: the nearer of two numbers by one test, and that the next number fits: what the check of `rounding.rt` is lent.
+-- z.share's rounding: the nearer of two numbers by one test, and that the next number fits: what `nearest_amount` (`rounding.rt`) goes by.
 use mathlib.Core.Path.{◌≡◌, refl}
 use mathlib.Core.Bool.{Bool, true, false, cond}
 use Prim.Native.Nat.{ℕ, ◌+◌, ◌*◌, ◌/◌, ◌%◌, ◌^◌, ◌≤◌, ◌<◌}

@@ -12,7 +12,6 @@ pub fn nearest(z: i64, c: i64) -> i64
 }
 
 // The quotient, or the next number: where twice the rest, one more at an odd quotient, is above d. So an exact half goes to the even one.
-#[tactic(auto, using(crate::proofs::ShareLaw::further, crate::proofs::ShareLaw::not_further, crate::proofs::ShareLaw::next_fits))]
 fn nearest_amount(n: u64, d: u64) -> u64
     requires { (0 < d) × (d ≤ 2147483647) }
     ensures { result ≡ nearest_nat n d }
