@@ -9,7 +9,7 @@ use Rattle.minuska.specs.declared.RunAnswer.TheVariants as R
 use Rattle.minuska.specs.declared.ReplayAnswer.{ReplayAnswer}
 use Rattle.minuska.specs.declared.ReplayAnswer.TheVariants as P
 use Rattle.minuska.specs.Answer.{number}
-use Rattle.minuska.specs.Slice.{check_says, match_says, reasons_says, step_says, run_says, replay_says}
+use Rattle.minuska.specs.Slice.{Said, check_says, match_says, reasons_says, step_says, run_says, replay_says}
 use Rattle.hethalip.specs.declared.pack.Kind.{Kind}
 use Rattle.hethalip.specs.declared.pack.Kind.TheVariants as K
 
@@ -58,29 +58,28 @@ abbrev pub replay_number : ReplayAnswer → ℕ
 replay_number P.Reproduced = 20
 replay_number P.NotReproduced = 21
 
--- 1 to 6: document 01's number of a refusal, as what is answered says it
+-- an answer that is no refusal has its own number; of a refusal the number that is said, 1 to 6, document 01's
+abbrev pub pack_by : {A : Type 0} → (A → ℕ) → (Result A Refusal → Said) → Result A Refusal → ℕ
+pack_by of says (Ok answer) = of answer
+pack_by of says (Err why) = (says (Err why)).number
+
 unfoldable pub pack_check : Result (Unit {0}) Refusal → ℕ
 pack_check answer = (check_says answer).number
 
 unfoldable pub pack_match : Result MatchAnswer Refusal → ℕ
-pack_match (Ok answer) = match_number answer
-pack_match (Err why) = (match_says (Err why)).number
+pack_match = pack_by match_number match_says
 
 unfoldable pub pack_reasons : Result (Option ℕ) Refusal → ℕ
-pack_reasons (Ok answer) = reasons_number answer
-pack_reasons (Err why) = (reasons_says (Err why)).number
+pack_reasons = pack_by reasons_number reasons_says
 
 unfoldable pub pack_step : Result (Option Stepped) Refusal → ℕ
-pack_step (Ok answer) = step_number answer
-pack_step (Err why) = (step_says (Err why)).number
+pack_step = pack_by step_number step_says
 
 unfoldable pub pack_run : Result RunAnswer Refusal → ℕ
-pack_run (Ok answer) = run_number answer
-pack_run (Err why) = (run_says (Err why)).number
+pack_run = pack_by run_number run_says
 
 unfoldable pub pack_replay : Result ReplayAnswer Refusal → ℕ
-pack_replay (Ok answer) = replay_number answer
-pack_replay (Err why) = (replay_says (Err why)).number
+pack_replay = pack_by replay_number replay_says
 
 -- The one packing of the code: an answer's own number, or the refusal's. `proofs/SaysLaw`: it is each of the six.
 abbrev pub pack : {A : Type 0} → (A → ℕ) → Result A Refusal → ℕ
